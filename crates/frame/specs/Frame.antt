@@ -1,0 +1,121 @@
+-- Frames: the message that a frame says, or the number of its refusal, and what the reader shows of either.
+use Prim.Native.Nat.{ℕ}
+use mathlib.Core.List.{List}
+use mathlib.Core.Bool.{Bool, true, false, _||_}
+use lib.ListN.{length, getD, drop}
+use lib.Dec.{ltb, eqb}
+use Rattle.frame.specs.Octets.{pick, num}
+use Rattle.frame.specs.Walk.{Parsed, refused as unread, parts, listed}
+use Rattle.frame.specs.Information.{InformationPart, informationWalk, informationParts, nothing, keepAll, gatheredOf}
+use Rattle.frame.specs.Events.{eventWalk}
+use Rattle.frame.specs.Variables.{Container, descriptorWalk, containerWalk}
+use Rattle.frame.specs.Lists.{wholeList}
+use Rattle.frame.specs.declared.Event.{Event}
+use Rattle.frame.specs.declared.Header.{Header}
+use Rattle.frame.specs.declared.lists.Listed.the-variants.{Events, Descriptors, Containers}
+use Rattle.frame.specs.declared.«local_remote».Gathered.{Gathered}
+use Rattle.frame.specs.declared.«local_remote».Gathered.the-variants.{Refused as RefusedGathered, Whole}
+use Rattle.frame.specs.declared.Reading.{Reading}
+use Rattle.frame.specs.declared.Reading.the-variants.{Refused, Information, Notification, Request, Response, Loopback, Organization}
+
+-- "Codes: 00 Information, 01 Event Notification, 02 Variable Request, 03 Variable Response, 04 Loopback Control, FE
+-- organization specific." A body with its parts in order.
+pub data Body : Type 0 where
+  information : List InformationPart → Body
+  notification : ℕ → List Event → Body
+  request : List ℕ → Body
+  response : List Container → Body
+  loopback : ℕ → Body
+  organization : ℕ → List ℕ → Body
+
+-- "A reading shows source address, flags, code and the body's parts in order."
+pub record Message : Type 0 where
+  pub source : ℕ
+  pub flags : ℕ
+  pub body : Body
+
+abbrev pub codeOf : Body → ℕ
+codeOf (information ps) = 0
+codeOf (notification n es) = 1
+codeOf (request ds) = 2
+codeOf (response cs) = 3
+codeOf (loopback n) = 4
+codeOf (organization oui x) = 0xfe
+
+pub data Answer : Type 0 where
+  refused : ℕ → Answer
+  accepted : Message → Answer
+
+-- The answers 1 to 4 in order, 0 where none is given: "received frame is not 60 to 1,514 octets", "destination is not
+-- 01-80-C2-00-00-02", "Length/Type is not 88-09", "subtype is not 3".
+unfoldable pub headerAnswer : List ℕ → ℕ
+headerAnswer f =
+    pick (ltb (length f) 60) 1
+    (pick (ltb 1514 (length f)) 1
+    (pick (eqb (num 6 f 0) 0x0180_c200_0002)
+    (pick (eqb (num 2 f 12) 0x8809)
+    (pick (eqb (getD f 14 0) 3) 0 4)
+    3)
+    2))
+
+-- "Destination 6, source 6, type 2, subtype 1, flags 2, code 1; the body starts at octet 18."
+abbrev pub says : List ℕ → Body → Answer
+says f b = accepted (record { source = num 6 f 6; flags = num 2 f 15; body = b })
+
+abbrev pub saysAll : {P : Type 0} → List ℕ → (List P → Body) → Parsed P → Answer
+saysAll f make (unread n) = refused n
+saysAll f make (parts ps) = says f (make ps)
+
+-- The body by its code. "The TLV walk begins at octet 18, or 20 after a sequence number (2 octets, code 01)." "Code FE: OUI
+-- 3; the reading shows the organization's data as that part of the caller's frame from octet 21 to the end, padding
+-- included." "loopback command is not 1 or 2" is 8, "code is 05 to FD, or FF" is 5.
+unfoldable pub bodyAnswer : List ℕ → ℕ → Answer
+bodyAnswer f code =
+    pick (eqb code 0) (saysAll f information (informationParts false false (informationWalk (drop 18 f))))
+    (pick (eqb code 1) (saysAll f (notification (num 2 f 18)) (listed (eventWalk (drop 20 f))))
+    (pick (eqb code 2) (saysAll f request (listed (descriptorWalk (drop 18 f))))
+    (pick (eqb code 3) (saysAll f response (listed (containerWalk (drop 18 f))))
+    (pick (eqb code 4) (pick (eqb (getD f 18 0) 1 || eqb (getD f 18 0) 2) (says f (loopback (getD f 18 0))) (refused 8))
+    (pick (eqb code 0xfe) (says f (organization (num 3 f 18) (drop 21 f)))
+    (refused 5))))))
+
+-- "Reading: 1 to 5 in order, then the body in octet order; at one TLV 6 comes before 7."
+unfoldable pub decode : List ℕ → Answer
+decode f = pick (eqb (headerAnswer f) 0) (bodyAnswer f (getD f 17 0)) (refused (headerAnswer f))
+
+-- What the reader shows of a message: its header, and what its body starts with. The parts are shown by the steps.
+abbrev pub shown : Header → Body → Reading
+shown h (information ps) = Information h (keepAll nothing ps)
+shown h (notification n es) = Notification h n
+shown h (request ds) = Request h
+shown h (response cs) = Response h
+shown h (loopback n) = Loopback h n
+shown h (organization oui x) = Organization h oui
+
+abbrev pub readingOf : Answer → Reading
+readingOf (refused n) = Refused n
+readingOf (accepted m) = shown (record { source = m .source; flags = m .flags; code = codeOf (m .body) }) (m .body)
+
+-- How the reader comes to it: the header, and by the code the answers of the body's walk.
+unfoldable pub headerOf : List ℕ → Header
+headerOf f = record { source = num 6 f 6; flags = num 2 f 15; code = getD f 17 0 }
+
+abbrev pub gatheredReading : Header → Gathered → Reading
+gatheredReading h (RefusedGathered n) = Refused n
+gatheredReading h (Whole found) = Information h found
+
+abbrev pub listReading : Bool → Reading → Reading
+listReading whole reading = pick whole reading (Refused 6)
+
+abbrev pub loopbackReading : Header → ℕ → Reading
+loopbackReading h n = pick (eqb n 1) (Loopback h n) (pick (eqb n 2) (Loopback h n) (Refused 8))
+
+unfoldable pub bodyReading : List ℕ → Header → Reading
+bodyReading f h =
+    pick (eqb (h .code) 0) (gatheredReading h (gatheredOf (drop 18 f)))
+    (pick (eqb (h .code) 1) (listReading (wholeList Events (drop 20 f)) (Notification h (num 2 f 18)))
+    (pick (eqb (h .code) 2) (listReading (wholeList Descriptors (drop 18 f)) (Request h))
+    (pick (eqb (h .code) 3) (listReading (wholeList Containers (drop 18 f)) (Response h))
+    (pick (eqb (h .code) 4) (loopbackReading h (getD f 18 0))
+    (pick (eqb (h .code) 0xfe) (Organization h (num 3 f 18))
+    (Refused 5))))))

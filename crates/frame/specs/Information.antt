@@ -1,0 +1,100 @@
+-- The parts of an Information body, and what a reader finds there.
+use Prim.Native.Nat.{ℕ, _+_}
+use mathlib.Core.List.{List, [], _∷_}
+use mathlib.Core.Bool.{Bool, true, false}
+use lib.ListN.{length}
+use lib.Dec.{eqb}
+use Rattle.frame.specs.Octets.{pick, num}
+use Rattle.frame.specs.Walk.{Next, stop, broken, skip, has, Walk, ends, breaks, over, part, walk, Parsed, refused, parts, also}
+use Rattle.frame.specs.Tlvs.{markAt}
+use Rattle.frame.specs.declared.tlvs.Mark.{Mark}
+use Rattle.frame.specs.declared.tlvs.Mark.the-variants.{End as MarkEnd, Broken as MarkBroken, Unknown, Known}
+use Rattle.frame.specs.declared.tlvs.Kind.the-variants.{Information as InformationKind}
+use Rattle.frame.specs.declared.Information.{Information}
+use Rattle.frame.specs.declared.InformationStep.{InformationStep}
+use Rattle.frame.specs.declared.InformationStep.the-variants.{End, Broken, Skip, Local, Remote}
+use Rattle.frame.specs.declared.Held.{Held}
+use Rattle.frame.specs.declared.Held.the-variants.{Nothing, Is}
+use Rattle.frame.specs.declared.Found.{Found}
+use Rattle.frame.specs.declared.«local_remote».Gathered.{Gathered}
+use Rattle.frame.specs.declared.«local_remote».Gathered.the-variants.{Refused, Whole}
+use Rattle.frame.specs.declared.«local_remote».Turn.{Turn}
+use Rattle.frame.specs.declared.«local_remote».Turn.the-variants.{Done, More}
+
+-- "version 1 octet, revision 2, state 1, configuration 1, OAMPDU configuration 2 (low 11 bits: maximum size, FCS counted),
+-- OUI 3, vendor 4", after the type and length octets
+unfoldable pub informationAt : List ℕ → ℕ → Information
+informationAt s at =
+    record {
+      version = num 1 s (at + 2);
+      revision = num 2 s (at + 3);
+      state = num 1 s (at + 5);
+      configuration = num 1 s (at + 6);
+      oampdu = num 2 s (at + 7);
+      oui = num 3 s (at + 9);
+      vendor = num 4 s (at + 12);
+    }
+
+abbrev pub stepOf : List ℕ → ℕ → Mark → InformationStep
+stepOf s at MarkEnd = End
+stepOf s at MarkBroken = Broken
+stepOf s at (Unknown next) = Skip next
+stepOf s at (Known t next) = pick (eqb t 1) (Local (informationAt s at) next) (Remote (informationAt s at) next)
+
+-- what stands at octet `at` of an Information body
+unfoldable pub informationStep : List ℕ → ℕ → InformationStep
+informationStep s at = stepOf s at (markAt InformationKind s at)
+
+-- a part of an Information body: a Local or a Remote TLV
+pub data InformationPart : Type 0 where
+  local : Information → InformationPart
+  remote : Information → InformationPart
+
+abbrev pub nextOf : InformationStep → Next InformationPart
+nextOf End = stop
+nextOf Broken = broken
+nextOf (Skip n) = skip n
+nextOf (Local i n) = has (local i) n
+nextOf (Remote i n) = has (remote i) n
+
+unfoldable pub informationWalk : List ℕ → Walk InformationPart
+informationWalk s = walk (λ at. nextOf (informationStep s at)) (length s) 0
+
+-- The parts in octet order; "a second Local, or second Remote, Information TLV" is 7. The two Bools say which were met.
+abbrev pub informationParts : Bool → Bool → Walk InformationPart → Parsed InformationPart
+informationParts l r ends = parts []
+informationParts l r breaks = refused 6
+informationParts l r (over w) = informationParts l r w
+informationParts l r (part (local i) w) = pick l (refused 7) (also (local i) (informationParts true r w))
+informationParts l r (part (remote i) w) = pick r (refused 7) (also (remote i) (informationParts l true w))
+
+-- what a reader finds of the parts
+abbrev pub keep : Found → InformationPart → Found
+keep found (local i) = record { local = Is i; remote = found .remote }
+keep found (remote i) = record { local = found .local; remote = Is i }
+
+abbrev pub keepAll : Found → List InformationPart → Found
+keepAll found [] = found
+keepAll found (p ∷ ps) = keepAll (keep found p) ps
+
+abbrev pub nothing : Found
+nothing = record { local = Nothing; remote = Nothing }
+
+abbrev pub gathered : Found → Parsed InformationPart → Gathered
+gathered found (refused n) = Refused n
+gathered found (parts ps) = Whole (keepAll found ps)
+
+unfoldable pub gatheredOf : List ℕ → Gathered
+gatheredOf s = gathered nothing (informationParts false false (informationWalk s))
+
+-- one turn of the reader
+abbrev pub isHeld : Held → Bool
+isHeld Nothing = false
+isHeld (Is i) = true
+
+abbrev pub turnOf : InformationStep → Found → Turn
+turnOf End found = Done (Whole found)
+turnOf Broken found = Done (Refused 6)
+turnOf (Skip n) found = More n found
+turnOf (Local i n) found = pick (isHeld (found .local)) (Done (Refused 7)) (More n (keep found (local i)))
+turnOf (Remote i n) found = pick (isHeld (found .remote)) (Done (Refused 7)) (More n (keep found (remote i)))

@@ -1,0 +1,20 @@
+-- Numbers that stand in octets. "All numbers are big-endian."
+use Prim.Native.Nat.{ℕ, zero, suc, _+_, _*_}
+use mathlib.Core.List.{List, [], _∷_}
+use mathlib.Core.Bool.{Bool, true, false}
+use lib.ListN.{getD}
+
+-- the first where the test holds, else the second
+abbrev pub pick {ℓ} : {X : Type ℓ} → Bool → X → X → X
+pick true x y = x
+pick false x y = y
+
+-- the number in the `width` octets of s from octet `at`
+abbrev pub num : ℕ → List ℕ → ℕ → ℕ
+num zero s at = 0
+num (suc width) s at = num width s at * 256 + getD s (at + width) 0
+
+-- the octets that some widths take
+abbrev pub total : List ℕ → ℕ
+total [] = 0
+total (w ∷ ws) = w + total ws

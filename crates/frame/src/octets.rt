@@ -1,0 +1,19 @@
+// Numbers that stand in octets, the first octet first.
+ghost use mathlib.Core.Path.{_≡_};
+ghost use Prim.Native.Nat.{_+_, _^_, _≤_, _<_};
+ghost use lib.ListN.{length};
+ghost use Rattle.frame.specs.Octets.{num};
+
+// The number in the width octets from octet at.
+pub(crate) fn number(s: &[u8], at: usize, width: usize) -> u64
+    requires { ⌜ (width ≤ 8) × (at + width ≤ length (now s)) ⌝ }
+    ensures { λ r. ⌜ (r ≡ num width (now (s .entry)) at) × (r < 256 ^ width) ⌝ }
+{
+    let mut value: u64 = 0;
+    let mut i: usize = 0;
+    while i < width {
+        value = value * 256 + (s[at + i] as u64);
+        i += 1;
+    }
+    value
+}

@@ -1,0 +1,34 @@
+// Parts of the caller's frame, from an octet to its end. A frame that is shorter has an empty one.
+ghost use mathlib.Core.Path.{_≡_};
+ghost use lib.ListN.{drop};
+
+fn part_from(frame: &[u8], at: usize) -> &[u8]
+    ensures { λ r. ⌜ now r ≡ drop at (now (frame .entry)) ⌝ }
+{
+    if at <= frame.len() {
+        &frame[at..]
+    } else {
+        &frame[..0]
+    }
+}
+
+// The body.
+pub fn body(frame: &[u8]) -> &[u8]
+    ensures { λ r. ⌜ now r ≡ drop 18 (now (frame .entry)) ⌝ }
+{
+    part_from(frame, 18)
+}
+
+// The body of an Event Notification after its number.
+pub fn events_body(frame: &[u8]) -> &[u8]
+    ensures { λ r. ⌜ now r ≡ drop 20 (now (frame .entry)) ⌝ }
+{
+    part_from(frame, 20)
+}
+
+// The organization's data, padding included.
+pub fn organization_data(frame: &[u8]) -> &[u8]
+    ensures { λ r. ⌜ now r ≡ drop 21 (now (frame .entry)) ⌝ }
+{
+    part_from(frame, 21)
+}
