@@ -83,7 +83,11 @@ whole-containers s =
 
 -- ---- what is shown of a body
 
-shown-information : (f : List ℕ) (w : Parsed InformationPart) → gatheredReading (record { source = num 6 f 6; flags = num 2 f 15; code = 0 }) (gathered nothing w) ≡ readingOf (saysAll f information w)
+-- the header that a frame of some code shows
+abbrev headed : List ℕ → ℕ → Header
+headed f code = record { source = num 6 f 6; flags = num 2 f 15; code = code }
+
+shown-information : (f : List ℕ) (w : Parsed InformationPart) → gatheredReading (headed f 0) (gathered nothing w) ≡ readingOf (saysAll f information w)
 shown-information f (unread n) = refl
 shown-information f (parts ps) = refl
 
@@ -100,12 +104,12 @@ module _ {P : Type 0} (f : List ℕ) (make : List P → Body) (reading : Reading
   shown-list (part p w) = shown-list w ∙ shown-also p (listed w)
 
 shown-loopback : (f : List ℕ) (n : ℕ)
-    → loopbackReading (record { source = num 6 f 6; flags = num 2 f 15; code = 4 }) n
+    → loopbackReading (headed f 4) n
     ≡ readingOf (pick (eqb n 1 || eqb n 2) (says f (loopback n)) (refused 8))
 shown-loopback f n = go (eqb n 1) (eqb n 2)
   where
     go : (a b : Bool)
-        → pick a (Loopback (record { source = num 6 f 6; flags = num 2 f 15; code = 4 }) n) (pick b (Loopback (record { source = num 6 f 6; flags = num 2 f 15; code = 4 }) n) (Refused 8))
+        → pick a (Loopback (headed f 4) n) (pick b (Loopback (headed f 4) n) (Refused 8))
         ≡ readingOf (pick (a || b) (says f (loopback n)) (refused 8))
     go true b = refl
     go false true = refl
@@ -133,8 +137,8 @@ reading f h =
     let code = getD f 17 0 in
     let s = drop 18 f in
     by-test (eqb code 0) (λ t. rw (h, eqb-true code 0 t) (shown-information f (informationParts false false (informationWalk s)))) (λ a.
-    by-test (eqb code 1) (λ t. rw (h, eqb-true code 1 t, whole-events (drop 20 f)) (shown-list f (notification (num 2 f 18)) _ (λ _. refl) (eventWalk (drop 20 f)))) (λ b.
-    by-test (eqb code 2) (λ t. rw (h, eqb-true code 2 t, whole-descriptors s) (shown-list f request _ (λ _. refl) (descriptorWalk s))) (λ c.
-    by-test (eqb code 3) (λ t. rw (h, eqb-true code 3 t, whole-containers s) (shown-list f response _ (λ _. refl) (containerWalk s))) (λ d.
+    by-test (eqb code 1) (λ t. rw (h, eqb-true code 1 t, whole-events (drop 20 f)) (shown-list f (notification (num 2 f 18)) (Notification (headed f 1) (num 2 f 18)) (λ _. refl) (eventWalk (drop 20 f)))) (λ b.
+    by-test (eqb code 2) (λ t. rw (h, eqb-true code 2 t, whole-descriptors s) (shown-list f request (Request (headed f 2)) (λ _. refl) (descriptorWalk s))) (λ c.
+    by-test (eqb code 3) (λ t. rw (h, eqb-true code 3 t, whole-containers s) (shown-list f response (Response (headed f 3)) (λ _. refl) (containerWalk s))) (λ d.
     by-test (eqb code 4) (λ t. rw (h, eqb-true code 4 t) (shown-loopback f (getD f 18 0))) (λ e.
     by-test (eqb code 0xfe) (λ t. rw (h, eqb-true code 0xfe t)) (λ o. simp (h, a, b, c, d, e, o)))))))

@@ -5,3 +5,4 @@ pub mod Marks
 pub mod Gathering
 pub mod Wholes
 pub mod Decoding
+pub mod Stepping

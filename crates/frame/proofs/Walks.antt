@@ -1,6 +1,6 @@
 -- Laws of a walk over the parts of a body: one turn of a loop that walks, and why a body's length is steps enough.
 use Prim.Native.Nat.{ℕ, zero, suc, _+_, _<_, _≤_}
-use mathlib.Core.Path.{_≡_, refl, sym, subst}
+use mathlib.Core.Path.{_≡_, refl, sym, ap, subst}
 use mathlib.Core.Bool.{Bool, true, false}
 use native.Mathlib.Omega.{arith}
 use Rattle.frame.specs.Octets.{pick}
@@ -47,3 +47,20 @@ module _ {P A : Type 0} (next : ℕ → Next P) (len : ℕ) (leads : Leads next 
   unfolding walk
   turn at (zero, h, e) = subst (Then next len answer fold) (sym (leads .end at (omega arith))) e
   turn at (suc f, h, e) = go at f (next at) (leads .ahead at) h e
+
+-- A body's length is steps enough: however many more are allowed, the walk is the same.
+module _ {P : Type 0} (next : ℕ → Next P) (len : ℕ) (leads : Leads next len) where
+  onward : (f g at : ℕ) (x : Next P) → Ahead at len x → len ≤ at + suc f → len ≤ at + suc g
+      → ((n : ℕ) → len ≤ n + f → len ≤ n + g → walk next f n ≡ walk next g n)
+      → onNext x (λ n. walk next f n) ≡ onNext x (λ n. walk next g n)
+  onward f g at stop a h k same = refl
+  onward f g at broken a h k same = refl
+  onward f g at (skip n) a h k same = ap over (same n (omega arith) (omega arith))
+  onward f g at (has p n) a h k same = ap (part p) (same n (omega arith) (omega arith))
+
+  pub enough : (f g at : ℕ) → len ≤ at + f → len ≤ at + g → walk next f at ≡ walk next g at
+  unfolding walk
+  enough zero zero at h k = refl
+  enough zero (suc g) at h k = rw (leads .end at (omega arith))
+  enough (suc f) zero at h k = rw (leads .end at (omega arith))
+  enough (suc f) (suc g) at h k = onward f g at (next at) (leads .ahead at) h k (λ n a b. enough f g n a b)

@@ -92,9 +92,15 @@ abbrev pub isHeld : Held → Bool
 isHeld Nothing = false
 isHeld (Is i) = true
 
+abbrev pub keepLocal : Found → Information → ℕ → Turn
+keepLocal found i n = pick (isHeld (found .local)) (Done (Refused 7)) (More n (keep found (local i)))
+
+abbrev pub keepRemote : Found → Information → ℕ → Turn
+keepRemote found i n = pick (isHeld (found .remote)) (Done (Refused 7)) (More n (keep found (remote i)))
+
 abbrev pub turnOf : InformationStep → Found → Turn
 turnOf End found = Done (Whole found)
 turnOf Broken found = Done (Refused 6)
 turnOf (Skip n) found = More n found
-turnOf (Local i n) found = pick (isHeld (found .local)) (Done (Refused 7)) (More n (keep found (local i)))
-turnOf (Remote i n) found = pick (isHeld (found .remote)) (Done (Refused 7)) (More n (keep found (remote i)))
+turnOf (Local i n) found = keepLocal found i n
+turnOf (Remote i n) found = keepRemote found i n

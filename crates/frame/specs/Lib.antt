@@ -7,3 +7,4 @@ pub mod Events
 pub mod Variables
 pub mod Lists
 pub mod Frame
+pub mod Steps

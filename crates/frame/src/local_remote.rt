@@ -3,7 +3,7 @@ ghost use mathlib.Core.Path.{_≡_};
 ghost use Prim.Native.Nat.{_+_, _≤_};
 ghost use lib.ListN.{length};
 ghost use Rattle.frame.specs.Tlvs.{informationLength};
-ghost use Rattle.frame.specs.Information.{informationAt, informationStep, turnOf, gatheredOf};
+ghost use Rattle.frame.specs.Information.{informationAt, informationStep, keepLocal, keepRemote, turnOf, gatheredOf};
 use crate::Found;
 use crate::Held;
 use crate::Information;
@@ -65,35 +65,49 @@ pub fn information_step(body: &[u8], at: usize) -> InformationStep
     }
 }
 
-fn turn_of(step: InformationStep, found: Found) -> Turn
-    ensures { λ r. ⌜ r ≡ turnOf step found ⌝ }
+fn keep_local(found: Found, i: Information, next: usize) -> Turn
+    ensures { λ r. ⌜ r ≡ keepLocal found i next ⌝ }
 {
     let l = found.local;
     let r = found.remote;
+    match l {
+        Held::Is(_) => Turn::Done(Gathered::Refused(7)),
+        Held::Nothing => Turn::More(
+            next,
+            Found {
+                local: Held::Is(i),
+                remote: r,
+            },
+        ),
+    }
+}
+
+fn keep_remote(found: Found, i: Information, next: usize) -> Turn
+    ensures { λ r. ⌜ r ≡ keepRemote found i next ⌝ }
+{
+    let l = found.local;
+    let r = found.remote;
+    match r {
+        Held::Is(_) => Turn::Done(Gathered::Refused(7)),
+        Held::Nothing => Turn::More(
+            next,
+            Found {
+                local: l,
+                remote: Held::Is(i),
+            },
+        ),
+    }
+}
+
+fn turn_of(step: InformationStep, found: Found) -> Turn
+    ensures { λ r. ⌜ r ≡ turnOf step found ⌝ }
+{
     match step {
         InformationStep::End => Turn::Done(Gathered::Whole(found)),
         InformationStep::Broken => Turn::Done(Gathered::Refused(6)),
         InformationStep::Skip(next) => Turn::More(next, found),
-        InformationStep::Local(i, next) => match l {
-            Held::Is(_) => Turn::Done(Gathered::Refused(7)),
-            Held::Nothing => Turn::More(
-                next,
-                Found {
-                    local: Held::Is(i),
-                    remote: r,
-                },
-            ),
-        },
-        InformationStep::Remote(i, next) => match r {
-            Held::Is(_) => Turn::Done(Gathered::Refused(7)),
-            Held::Nothing => Turn::More(
-                next,
-                Found {
-                    local: l,
-                    remote: Held::Is(i),
-                },
-            ),
-        },
+        InformationStep::Local(i, next) => keep_local(found, i, next),
+        InformationStep::Remote(i, next) => keep_remote(found, i, next),
     }
 }
 

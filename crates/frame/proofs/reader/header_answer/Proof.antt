@@ -1,4 +1,4 @@
-use borrow.Author.Tests.{eq-eqb, le-leb, le-ltb, lt-leb, lt-ltb, ne-eqb}
+use borrow.Author.Tests.{eq-eqb, le-ltb, lt-ltb, ne-eqb}
 use mathlib.Core.Path.{_∙_, sym}
 use borrow.Author.Needs.{needs}
 use Rattle.frame.specs.Frame.{headerAnswer}
@@ -7,11 +7,11 @@ use Rattle.frame.proofs.reader.header_answer.Tie as tie
 
 returns : tie.Need-returns
 unfolding headerAnswer
-returns c = simp (lt-ltb _ _ (c .if1 .taken), lt-leb _ _ (c .if1 .taken))
+returns c = simp (lt-ltb _ _ (c .if1 .taken))
 
 returns-2 : tie.Need-returns-2
 unfolding headerAnswer
-returns-2 c = simp (lt-ltb _ _ (c .if2 .taken), lt-leb _ _ (c .if2 .taken), le-leb _ _ (c .before .if1 .left), le-ltb _ _ (c .before .if1 .left))
+returns-2 c = simp (lt-ltb _ _ (c .if2 .taken), le-ltb _ _ (c .before .if1 .left))
 
 number-requires : tie.Need-number-requires
 number-requires c κs = search needs

@@ -6,21 +6,21 @@ use Rattle.frame.proofs.variables.descriptor_step.Tie as tie
 
 returns : tie.Need-returns
 unfolding descriptorStep
-returns c = simp (le-leb _ _ (c .if1 .taken), le-ltb _ _ (c .if1 .taken))
+returns c = simp (le-leb _ _ (c .if1 .taken))
 
 shared-slice-read-if2 : tie.Need-shared-slice-read-if2
 shared-slice-read-if2 c = search needs
 
 returns-2 : tie.Need-returns-2
 unfolding descriptorStep
-returns-2 c = simp (eq-eqb _ _ (c .if2 .taken), lt-ltb _ _ (c .before .before .if1 .left), lt-leb _ _ (c .before .before .if1 .left))
+returns-2 c = simp (eq-eqb _ _ (c .if2 .taken), lt-leb _ _ (c .before .before .if1 .left))
 
 sub-if3 : tie.Need-sub-if3
 sub-if3 c = search needs
 
 returns-3 : tie.Need-returns-3
 unfolding descriptorStep
-returns-3 c = simp (lt-ltb _ _ (c .if3 .taken), lt-leb _ _ (c .if3 .taken), ne-eqb _ _ (c .before .if2 .left), lt-ltb _ _ (c .before .before .before .if1 .left), lt-leb _ _ (c .before .before .before .if1 .left))
+returns-3 c = simp (lt-ltb _ _ (c .if3 .taken), ne-eqb _ _ (c .before .if2 .left), lt-leb _ _ (c .before .before .before .if1 .left))
 
 number-requires : tie.Need-number-requires
 number-requires c κs = search needs
