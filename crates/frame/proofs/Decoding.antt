@@ -1,6 +1,6 @@
 -- How the reader's answers come to what `decode` says.
-use Prim.Native.Nat.{ℕ, zero, suc, _≤_}
-use mathlib.Core.Path.{_≡_, refl, sym, ap, _∙_, subst}
+use Prim.Native.Nat.{ℕ, _≤_}
+use mathlib.Core.Path.{_≡_, refl, sym, _∙_}
 use mathlib.Core.List.{List, [], _∷_}
 use mathlib.Core.Bool.{Bool, true, false, _||_}
 use native.Mathlib.Omega.{arith}
@@ -8,78 +8,17 @@ use borrow.Author.Tests.{ltb-false, eqb-true, ne-eqb}
 use lib.ListN.{length, getD, drop}
 use lib.Dec.{ltb, eqb}
 use Rattle.frame.specs.Octets.{pick, num}
-use Rattle.frame.specs.Tlvs.{markAt}
-use Rattle.frame.specs.Walk.{Next, stop, broken, skip, has, Walk, ends, breaks, over, part, onNext, walk, whole, Parsed, refused as unread, parts, also, listed}
-use Rattle.frame.specs.Information.{InformationPart, informationWalk, informationParts, nothing, gathered, gatheredOf}
-use Rattle.frame.specs.Events.{stepOf, eventStep, nextOf, eventWalk}
-use Rattle.frame.specs.Variables.{descriptorStep, descriptorNext, descriptorWalk, containerStep, containerNext, containerWalk}
-use Rattle.frame.specs.Lists.{ofMark, ofDescriptor, ofContainer, placeAt, placeNext, wholeList}
-use Rattle.frame.specs.Frame.{refused, Body, information, notification, request, response, loopback, organization, says, saysAll, headerAnswer, headerOf, bodyAnswer, decode, readingOf, gatheredReading, listReading, loopbackReading, bodyReading}
-use Rattle.frame.specs.declared.tlvs.Mark.{Mark}
-use Rattle.frame.specs.declared.tlvs.Mark.the-variants.{End as MarkEnd, Broken as MarkBroken, Unknown, Known}
-use Rattle.frame.specs.declared.tlvs.Kind.the-variants.{Events as EventKind}
-use Rattle.frame.specs.declared.DescriptorStep.{DescriptorStep}
-use Rattle.frame.specs.declared.DescriptorStep.the-variants.{End as DescriptorEnd, Broken as DescriptorBroken, Has as HasDescriptor}
-use Rattle.frame.specs.declared.ContainerStep.{ContainerStep}
-use Rattle.frame.specs.declared.ContainerStep.the-variants.{End as ContainerEnd, Broken as ContainerBroken, Value, Indication}
-use Rattle.frame.specs.declared.lists.Listed.the-variants.{Events, Descriptors, Containers}
+use Rattle.frame.specs.Walk.{Walk, ends, breaks, over, part, whole, Parsed, refused as unread, parts, also, listed}
+use Rattle.frame.specs.Information.{InformationPart, informationWalk, informationParts, nothing}
+use Rattle.frame.specs.Reader.{gathered, gatheredOf, headerOf, gatheredReading, listReading, loopbackReading, bodyReading}
+use Rattle.frame.specs.Events.{eventWalk}
+use Rattle.frame.specs.Variables.{descriptorWalk, containerWalk}
+use Rattle.frame.specs.Frame.{refused, Body, information, notification, request, response, loopback, says, saysAll, headerAnswer, bodyAnswer, decode, readingOf}
 use Rattle.frame.specs.declared.Header.{Header}
 use Rattle.frame.specs.declared.Reading.{Reading}
 use Rattle.frame.specs.declared.Reading.the-variants.{Refused, Notification, Request, Response, Loopback}
 use Rattle.frame.proofs.Walks.{by-pick}
-
--- ---- whether a list is whole goes by the places of its parts
-
--- a step with nothing said of the part
-abbrev bare : {P : Type 0} → Next P → Next Unit
-bare stop = stop
-bare broken = broken
-bare (skip n) = skip n
-bare (has p n) = has tt n
-
-module _ {P : Type 0} (next : ℕ → Next P) (place : ℕ → Next Unit) (same : (at : ℕ) → bare (next at) ≡ place at) where
-  onward : (go : ℕ → Walk P) (go′ : ℕ → Walk Unit) → ((n : ℕ) → whole (go′ n) ≡ whole (go n)) → (x : Next P) → whole (onNext (bare x) go′) ≡ whole (onNext x go)
-  onward go go′ h stop = refl
-  onward go go′ h broken = refl
-  onward go go′ h (skip n) = h n
-  onward go go′ h (has p n) = h n
-
-  whole-bare : (steps at : ℕ) → whole (walk place steps at) ≡ whole (walk next steps at)
-  unfolding walk
-  whole-bare zero at = refl
-  whole-bare (suc steps) at = rw (← same at) (onward (λ n. walk next steps n) (λ n. walk place steps n) (λ n. whole-bare steps n) (next at))
-
-bare-event : (s : List ℕ) (at : ℕ) (mark : Mark) → bare (nextOf (stepOf s at mark)) ≡ placeNext (ofMark mark)
-bare-event s at MarkEnd = refl
-bare-event s at MarkBroken = refl
-bare-event s at (Unknown n) = refl
-bare-event s at (Known t n) = refl
-
-bare-descriptor : (x : DescriptorStep) → bare (descriptorNext x) ≡ placeNext (ofDescriptor x)
-bare-descriptor DescriptorEnd = refl
-bare-descriptor DescriptorBroken = refl
-bare-descriptor (HasDescriptor d n) = refl
-
-bare-container : (s : List ℕ) (x : ContainerStep) → bare (containerNext s x) ≡ placeNext (ofContainer x)
-bare-container s ContainerEnd = refl
-bare-container s ContainerBroken = refl
-bare-container s (Value d w n) = refl
-bare-container s (Indication d o n) = refl
-
-whole-events : (s : List ℕ) → wholeList Events s ≡ whole (eventWalk s)
-unfolding wholeList eventWalk eventStep
-whole-events s =
-    whole-bare (λ at. nextOf (eventStep s at)) (λ at. placeNext (placeAt Events s at)) (λ at. bare-event s at (markAt EventKind s at)) (length s) 0
-
-whole-descriptors : (s : List ℕ) → wholeList Descriptors s ≡ whole (descriptorWalk s)
-unfolding wholeList descriptorWalk
-whole-descriptors s =
-    whole-bare (λ at. descriptorNext (descriptorStep s at)) (λ at. placeNext (placeAt Descriptors s at)) (λ at. bare-descriptor (descriptorStep s at)) (length s) 0
-
-whole-containers : (s : List ℕ) → wholeList Containers s ≡ whole (containerWalk s)
-unfolding wholeList containerWalk
-whole-containers s =
-    whole-bare (λ at. containerNext s (containerStep s at)) (λ at. placeNext (placeAt Containers s at)) (λ at. bare-container s (containerStep s at)) (length s) 0
+use Rattle.frame.proofs.Places.{whole-events, whole-descriptors, whole-containers}
 
 -- ---- what is shown of a body
 
@@ -117,10 +56,15 @@ shown-loopback f n = go (eqb n 1) (eqb n 2)
 
 -- ---- the whole frame
 
+neither : (a b : Bool) → a || b ≡ false → a ≡ false
+neither true b h = h
+neither false b h = refl
+
 pub header-long : (f : List ℕ) → headerAnswer f ≡ 0 → 60 ≤ length f
 unfolding headerAnswer
 header-long f =
-    by-pick (λ (n : ℕ). n ≡ 0 → 60 ≤ length f) (ltb (length f) 60) (λ _ e. absurd (omega arith)) (λ h _. omega (arith, ltb-false))
+    by-pick (λ (n : ℕ). n ≡ 0 → 60 ≤ length f) (ltb (length f) 60 || ltb 1514 (length f)) (λ _ e. absurd (omega arith))
+    (λ h _. omega (arith, ltb-false (length f) 60 (neither (ltb (length f) 60) (ltb 1514 (length f)) h)))
 
 pub reading-refused : (f : List ℕ) → (headerAnswer f ≡ 0 → ⊥) → Refused (headerAnswer f) ≡ readingOf (decode f)
 unfolding decode

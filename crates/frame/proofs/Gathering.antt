@@ -8,7 +8,8 @@ use lib.ListN.{length}
 use lib.Dec.{eqb}
 use Rattle.frame.specs.Tlvs.{markAt}
 use Rattle.frame.specs.Walk.{Next, stop, Walk, walk, Parsed, refused, parts, also}
-use Rattle.frame.specs.Information.{stepOf, informationStep, InformationPart, local, remote, nextOf, informationWalk, informationParts, keep, gathered, nothing, gatheredOf, isHeld, turnOf}
+use Rattle.frame.specs.Information.{stepOf, informationStep, InformationPart, local, remote, nextOf, informationWalk, informationParts, keep, nothing}
+use Rattle.frame.specs.Reader.{gathered, gatheredOf, isHeld, turnOf}
 use Rattle.frame.specs.declared.tlvs.Mark.{Mark}
 use Rattle.frame.specs.declared.tlvs.Mark.the-variants.{End as MarkEnd, Broken as MarkBroken, Unknown, Known}
 use Rattle.frame.specs.declared.tlvs.Kind.the-variants.{Information as InformationKind}

@@ -4,5 +4,8 @@ pub mod Walks
 pub mod Marks
 pub mod Gathering
 pub mod Wholes
+pub mod Places
 pub mod Decoding
 pub mod Stepping
+pub mod Answers
+pub mod FlagLaws

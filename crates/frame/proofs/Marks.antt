@@ -1,7 +1,7 @@
 -- Laws of what stands at an octet of a body of TLVs.
 use Prim.Native.Nat.{ℕ, _+_, _-_, _<_, _≤_}
 use mathlib.Core.Path.{_≡_, refl, sym, ap, _∙_}
-use mathlib.Core.Bool.{Bool, true, false}
+use mathlib.Core.Bool.{Bool, true, false, _||_}
 use mathlib.Core.List.{List}
 use native.Mathlib.Omega.{arith}
 use borrow.Author.Tests.{ltb-false, leb-false, leb-true, eqb-true, eqb-false, le-leb}
@@ -61,7 +61,7 @@ mark-end kind s at h = simp (le-leb _ _ h)
 
 -- a known Information TLV has 16 octets
 pub information-16 : (t : ℕ) → 0 < informationLength t → informationLength t ≡ 16
-information-16 t = by-pick (λ (n : ℕ). 0 < n → n ≡ 16) (leb t 2) (λ _ _. refl) (λ _ h. absurd (omega arith))
+information-16 t = by-pick (λ (n : ℕ). 0 < n → n ≡ 16) (eqb t 1 || eqb t 2) (λ _ _. refl) (λ _ h. absurd (omega arith))
 
 -- a known event TLV has a row of the table
 pub record Tabled (t n : ℕ) : Type 0 where

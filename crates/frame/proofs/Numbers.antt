@@ -1,12 +1,15 @@
 -- Laws of numbers that stand in octets.
-use Prim.Native.Nat.{ℕ, zero, suc, _+_, _*_, _%_, _^_, _<_, _≤_}
-use mathlib.Core.Path.{_≡_}
+use Prim.Native.Nat.{ℕ, zero, suc, _+_, _*_, _/_, _%_, _^_, _<_, _≤_}
+use mathlib.Core.Path.{_≡_, subst}
 use mathlib.Core.List.{List}
+use mathlib.Core.Bool.{Bool, true, false}
 use native.Mathlib.Omega.{arith}
 use native.Mathlib.Nat.{pow-suc, pow-le-pow-right}
-use lib.Bits.{bitAnd, and-mask}
+use lib.Bits.{bitAnd, bitOr, and-mask, or-shifted}
+use lib.Pow.{split}
 use lib.ListN.{getD}
 use Rattle.frame.specs.Octets.{num}
+use Rattle.frame.specs.Flags.{bitOf}
 
 -- every element is an octet
 abbrev pub Octets : List ℕ → Type 0
@@ -26,3 +29,30 @@ mask-1 n = and-mask n 1
 
 pub mask-3 : (n : ℕ) → bitAnd n 3 ≡ n % 4
 mask-3 n = and-mask n 2
+
+-- an or of numbers that share no bit: x is a multiple of 2 ^ k, and y is below it
+or-sum : (k x y : ℕ) → x % 2 ^ k ≡ 0 → y < 2 ^ k → bitOr x y ≡ x + y
+or-sum k x y e h =
+    let whole : x / 2 ^ k * 2 ^ k ≡ x = omega (arith, split x k) in
+    subst (λ (n : ℕ). bitOr n y ≡ n + y) whole (or-shifted (x / 2 ^ k) k y h)
+
+-- the flags' parts at their places
+pub flags-sum : (a b c d e : ℕ) → a < 4 → b < 4 → c < 2 → d < 2 → e < 2
+    → bitOr (bitOr (bitOr (bitOr (a * 32 % 65536) (b * 8 % 65536)) (c * 4 % 65536)) (d * 2 % 65536)) e
+    ≡ a * 32 + (b * 8 + (c * 4 + (d * 2 + e)))
+flags-sum a b c d e ha hb hc hd he =
+    let a′ = a * 32 % 65536 in
+    let b′ = b * 8 % 65536 in
+    let c′ = c * 4 % 65536 in
+    let d′ = d * 2 % 65536 in
+    rw (
+      or-sum 5 a′ b′ (omega arith) (omega arith),
+      or-sum 3 (a′ + b′) c′ (omega arith) (omega arith),
+      or-sum 2 (a′ + b′ + c′) d′ (omega arith) (omega arith),
+      or-sum 1 (a′ + b′ + c′ + d′) e (omega arith) (omega arith),
+    )
+    (omega arith)
+
+pub bit-lt : (on : Bool) → bitOf on < 2
+bit-lt true = omega arith
+bit-lt false = omega arith

@@ -64,3 +64,8 @@ module _ {P : Type 0} (next : ℕ → Next P) (len : ℕ) (leads : Leads next le
   enough zero (suc g) at h k = rw (leads .end at (omega arith))
   enough (suc f) zero at h k = rw (leads .end at (omega arith))
   enough (suc f) (suc g) at h k = onward f g at (next at) (leads .ahead at) h k (λ n a b. enough f g n a b)
+
+  -- the walk with no count of steps: what stands at the octet, then the walk from the octet after it
+  pub unrolls : (at : ℕ) → walk next len at ≡ onNext (next at) (λ n. walk next len n)
+  unfolding walk
+  unrolls at = enough len (suc len) at (omega arith) (omega arith)

@@ -22,8 +22,8 @@ use Rattle.frame.specs.declared.ContainerStep.{ContainerStep}
 use Rattle.frame.specs.declared.ContainerStep.the-variants.{End as ContainerEnd, Broken as ContainerBroken, Value, Indication}
 use Rattle.frame.specs.declared.lists.Place.{Place}
 use Rattle.frame.specs.declared.lists.Place.the-variants.{End, Broken, Skip, Has}
-use Rattle.frame.specs.declared.lists.Listed.{Listed}
-use Rattle.frame.specs.declared.lists.Listed.the-variants.{Events, Descriptors, Containers}
+use Rattle.frame.specs.declared.lists.ListKind.{ListKind}
+use Rattle.frame.specs.declared.lists.ListKind.the-variants.{Events, Descriptors, Containers}
 use Rattle.frame.proofs.Walks.{by-pick, Ahead, Rest, Then, Leads, turn}
 use Rattle.frame.proofs.Marks.{Marked, mark-within, mark-end}
 
@@ -87,7 +87,7 @@ of-container at len ContainerBroken h = tt
 of-container at len (Value d w n) h = (omega arith, h .1)
 of-container at len (Indication d o n) h = (omega arith, h .1)
 
-pub list-leads : (list : Listed) (s : List ℕ) → Leads (λ at. placeNext (placeAt list s at)) (length s)
+pub list-leads : (list : ListKind) (s : List ℕ) → Leads (λ at. placeNext (placeAt list s at)) (length s)
 list-leads Events s =
     record {
       end = λ at h. ap (λ (m : Mark). placeNext (ofMark m)) (mark-end EventKind s at h);
@@ -105,16 +105,16 @@ list-leads Containers s =
     }
 
 -- what holds at each turn of the loop, and what one turn comes to
-abbrev pub Going : Listed → List ℕ → ℕ → Type 0
+abbrev pub Going : ListKind → List ℕ → ℕ → Type 0
 Going list s at = Rest (λ n. placeNext (placeAt list s n)) (length s) (wholeList list s) whole at
 
-abbrev pub Gone : Listed → List ℕ → ℕ → Place → Type 0
+abbrev pub Gone : ListKind → List ℕ → ℕ → Place → Type 0
 Gone list s at x = Then (λ n. placeNext (placeAt list s n)) (length s) (wholeList list s) whole (placeNext x) × Ahead at (length s) (placeNext x)
 
-pub one-turn : (list : Listed) (s : List ℕ) (at : ℕ) → Going list s at → Gone list s at (placeAt list s at)
+pub one-turn : (list : ListKind) (s : List ℕ) (at : ℕ) → Going list s at → Gone list s at (placeAt list s at)
 one-turn list s at h =
     (turn (λ n. placeNext (placeAt list s n)) (length s) (list-leads list s) (wholeList list s) whole at h, list-leads list s .ahead at)
 
-pub start : (list : Listed) (s : List ℕ) → Going list s 0
+pub start : (list : ListKind) (s : List ℕ) → Going list s 0
 unfolding wholeList
 start list s = (length s, omega arith, refl)

@@ -1,5 +1,6 @@
 -- The flags number and its parts.
-use Prim.Native.Nat.{ℕ, _/_, _%_}
+use Prim.Native.Nat.{ℕ, _+_, _*_, _/_, _%_}
+use mathlib.Core.Bool.{Bool, true, false}
 use lib.Dec.{eqb}
 use Rattle.frame.specs.declared.Flags.{Flags}
 
@@ -13,3 +14,11 @@ flagsOf n =
       local = n / 8 % 4;
       remote = n / 32 % 4;
     }
+
+abbrev pub bitOf : Bool → ℕ
+bitOf true = 1
+bitOf false = 0
+
+-- the number of the parts, each field cut to its two bits; the other bits are "sent 0"
+unfoldable pub joined : Flags → ℕ
+joined f = f .remote % 4 * 32 + (f .local % 4 * 8 + (bitOf (f .critical) * 4 + (bitOf (f .gasp) * 2 + bitOf (f .fault))))

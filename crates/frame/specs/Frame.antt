@@ -1,20 +1,16 @@
 -- Frames: the message that a frame says, or the number of its refusal, and what the reader shows of either.
 use Prim.Native.Nat.{ℕ}
 use mathlib.Core.List.{List}
-use mathlib.Core.Bool.{Bool, true, false, _||_}
+use mathlib.Core.Bool.{Bool, true, false, not, _||_}
 use lib.ListN.{length, getD, drop}
 use lib.Dec.{ltb, eqb}
 use Rattle.frame.specs.Octets.{pick, num}
 use Rattle.frame.specs.Walk.{Parsed, refused as unread, parts, listed}
-use Rattle.frame.specs.Information.{InformationPart, informationWalk, informationParts, nothing, keepAll, gatheredOf}
+use Rattle.frame.specs.Information.{InformationPart, informationWalk, informationParts, nothing, keepAll}
 use Rattle.frame.specs.Events.{eventWalk}
 use Rattle.frame.specs.Variables.{Container, descriptorWalk, containerWalk}
-use Rattle.frame.specs.Lists.{wholeList}
 use Rattle.frame.specs.declared.Event.{Event}
 use Rattle.frame.specs.declared.Header.{Header}
-use Rattle.frame.specs.declared.lists.Listed.the-variants.{Events, Descriptors, Containers}
-use Rattle.frame.specs.declared.«local_remote».Gathered.{Gathered}
-use Rattle.frame.specs.declared.«local_remote».Gathered.the-variants.{Refused as RefusedGathered, Whole}
 use Rattle.frame.specs.declared.Reading.{Reading}
 use Rattle.frame.specs.declared.Reading.the-variants.{Refused, Information, Notification, Request, Response, Loopback, Organization}
 
@@ -50,13 +46,11 @@ pub data Answer : Type 0 where
 -- 01-80-C2-00-00-02", "Length/Type is not 88-09", "subtype is not 3".
 unfoldable pub headerAnswer : List ℕ → ℕ
 headerAnswer f =
-    pick (ltb (length f) 60) 1
-    (pick (ltb 1514 (length f)) 1
-    (pick (eqb (num 6 f 0) 0x0180_c200_0002)
-    (pick (eqb (num 2 f 12) 0x8809)
-    (pick (eqb (getD f 14 0) 3) 0 4)
-    3)
-    2))
+    pick (ltb (length f) 60 || ltb 1514 (length f)) 1
+    (pick (not (eqb (num 6 f 0) 0x0180_c200_0002)) 2
+    (pick (not (eqb (num 2 f 12) 0x8809)) 3
+    (pick (not (eqb (getD f 14 0) 3)) 4
+    0)))
 
 -- "Destination 6, source 6, type 2, subtype 1, flags 2, code 1; the body starts at octet 18."
 abbrev pub says : List ℕ → Body → Answer
@@ -83,7 +77,8 @@ bodyAnswer f code =
 unfoldable pub decode : List ℕ → Answer
 decode f = pick (eqb (headerAnswer f) 0) (bodyAnswer f (getD f 17 0)) (refused (headerAnswer f))
 
--- What the reader shows of a message: its header, and what its body starts with. The parts are shown by the steps.
+-- What the reader shows of a message: its header and the body's fixed numbers (event number, command, OUI); of an Information
+-- body its Local and Remote TLVs. The parts in order are shown by the steps.
 abbrev pub shown : Header → Body → Reading
 shown h (information ps) = Information h (keepAll nothing ps)
 shown h (notification n es) = Notification h n
@@ -95,27 +90,3 @@ shown h (organization oui x) = Organization h oui
 abbrev pub readingOf : Answer → Reading
 readingOf (refused n) = Refused n
 readingOf (accepted m) = shown (record { source = m .source; flags = m .flags; code = codeOf (m .body) }) (m .body)
-
--- How the reader comes to it: the header, and by the code the answers of the body's walk.
-unfoldable pub headerOf : List ℕ → Header
-headerOf f = record { source = num 6 f 6; flags = num 2 f 15; code = getD f 17 0 }
-
-abbrev pub gatheredReading : Header → Gathered → Reading
-gatheredReading h (RefusedGathered n) = Refused n
-gatheredReading h (Whole found) = Information h found
-
-abbrev pub listReading : Bool → Reading → Reading
-listReading whole reading = pick whole reading (Refused 6)
-
-abbrev pub loopbackReading : Header → ℕ → Reading
-loopbackReading h n = pick (eqb n 1) (Loopback h n) (pick (eqb n 2) (Loopback h n) (Refused 8))
-
-unfoldable pub bodyReading : List ℕ → Header → Reading
-bodyReading f h =
-    pick (eqb (h .code) 0) (gatheredReading h (gatheredOf (drop 18 f)))
-    (pick (eqb (h .code) 1) (listReading (wholeList Events (drop 20 f)) (Notification h (num 2 f 18)))
-    (pick (eqb (h .code) 2) (listReading (wholeList Descriptors (drop 18 f)) (Request h))
-    (pick (eqb (h .code) 3) (listReading (wholeList Containers (drop 18 f)) (Response h))
-    (pick (eqb (h .code) 4) (loopbackReading h (getD f 18 0))
-    (pick (eqb (h .code) 0xfe) (Organization h (num 3 f 18))
-    (Refused 5))))))

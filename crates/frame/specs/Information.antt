@@ -16,10 +16,6 @@ use Rattle.frame.specs.declared.InformationStep.the-variants.{End, Broke
 use Rattle.frame.specs.declared.Held.{Held}
 use Rattle.frame.specs.declared.Held.the-variants.{Nothing, Is}
 use Rattle.frame.specs.declared.Found.{Found}
-use Rattle.frame.specs.declared.«local_remote».Gathered.{Gathered}
-use Rattle.frame.specs.declared.«local_remote».Gathered.the-variants.{Refused, Whole}
-use Rattle.frame.specs.declared.«local_remote».Turn.{Turn}
-use Rattle.frame.specs.declared.«local_remote».Turn.the-variants.{Done, More}
 
 -- "version 1 octet, revision 2, state 1, configuration 1, OAMPDU configuration 2 (low 11 bits: maximum size, FCS counted),
 -- OUI 3, vendor 4", after the type and length octets
@@ -79,28 +75,3 @@ keepAll found (p ∷ ps) = keepAll (keep found p) ps
 
 abbrev pub nothing : Found
 nothing = record { local = Nothing; remote = Nothing }
-
-abbrev pub gathered : Found → Parsed InformationPart → Gathered
-gathered found (refused n) = Refused n
-gathered found (parts ps) = Whole (keepAll found ps)
-
-unfoldable pub gatheredOf : List ℕ → Gathered
-gatheredOf s = gathered nothing (informationParts false false (informationWalk s))
-
--- one turn of the reader
-abbrev pub isHeld : Held → Bool
-isHeld Nothing = false
-isHeld (Is i) = true
-
-abbrev pub keepLocal : Found → Information → ℕ → Turn
-keepLocal found i n = pick (isHeld (found .local)) (Done (Refused 7)) (More n (keep found (local i)))
-
-abbrev pub keepRemote : Found → Information → ℕ → Turn
-keepRemote found i n = pick (isHeld (found .remote)) (Done (Refused 7)) (More n (keep found (remote i)))
-
-abbrev pub turnOf : InformationStep → Found → Turn
-turnOf End found = Done (Whole found)
-turnOf Broken found = Done (Refused 6)
-turnOf (Skip n) found = More n found
-turnOf (Local i n) found = keepLocal found i n
-turnOf (Remote i n) found = keepRemote found i n

@@ -7,4 +7,5 @@ pub mod Events
 pub mod Variables
 pub mod Lists
 pub mod Frame
+pub mod Reader
 pub mod Steps

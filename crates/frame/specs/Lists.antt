@@ -1,4 +1,5 @@
--- Whether a list of parts is whole, by what stands at each octet and not by what it says.
+-- Whether a list of parts is whole, by what stands at each octet and not by what it says. No public promise mentions anything
+-- here.
 use Prim.Native.Nat.{ℕ}
 use mathlib.Core.List.{List}
 use mathlib.Core.Bool.{Bool}
@@ -15,8 +16,8 @@ use Rattle.frame.specs.declared.ContainerStep.{ContainerStep}
 use Rattle.frame.specs.declared.ContainerStep.the-variants.{End as ContainerEnd, Broken as ContainerBroken, Value, Indication}
 use Rattle.frame.specs.declared.lists.Place.{Place}
 use Rattle.frame.specs.declared.lists.Place.the-variants.{End, Broken, Skip, Has}
-use Rattle.frame.specs.declared.lists.Listed.{Listed}
-use Rattle.frame.specs.declared.lists.Listed.the-variants.{Events, Descriptors, Containers}
+use Rattle.frame.specs.declared.lists.ListKind.{ListKind}
+use Rattle.frame.specs.declared.lists.ListKind.the-variants.{Events, Descriptors, Containers}
 
 abbrev pub ofMark : Mark → Place
 ofMark MarkEnd = End
@@ -35,7 +36,7 @@ ofContainer ContainerBroken = Broken
 ofContainer (Value d w n) = Has n
 ofContainer (Indication d o n) = Has n
 
-abbrev pub placeAt : Listed → List ℕ → ℕ → Place
+abbrev pub placeAt : ListKind → List ℕ → ℕ → Place
 placeAt Events s at = ofMark (markAt EventKind s at)
 placeAt Descriptors s at = ofDescriptor (descriptorStep s at)
 placeAt Containers s at = ofContainer (containerStep s at)
@@ -47,5 +48,5 @@ placeNext Broken = broken
 placeNext (Skip n) = skip n
 placeNext (Has n) = has tt n
 
-unfoldable pub wholeList : Listed → List ℕ → Bool
+unfoldable pub wholeList : ListKind → List ℕ → Bool
 wholeList list s = whole (walk (λ at. placeNext (placeAt list s at)) (length s) 0)

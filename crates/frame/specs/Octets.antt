@@ -9,7 +9,7 @@ abbrev pub pick {ℓ} : {X : Type ℓ} → Bool → X → X → X
 pick true x y = x
 pick false x y = y
 
--- the number in the `width` octets of s from octet `at`
+-- the number in the `width` octets of s from octet `at`; octets past the end count as 0, and every use is behind a length test
 abbrev pub num : ℕ → List ℕ → ℕ → ℕ
 num zero s at = 0
 num (suc width) s at = num width s at * 256 + getD s (at + width) 0

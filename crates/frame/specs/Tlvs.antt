@@ -1,8 +1,8 @@
 -- The TLVs of Information and Event Notification bodies.
-use Prim.Native.Nat.{ℕ, _+_, _-_}
+use Prim.Native.Nat.{ℕ, zero, suc, _+_, _-_}
 use mathlib.Core.List.{List, [], _∷_}
-use mathlib.Core.Bool.{Bool, true, false}
-use lib.ListN.{length, getD}
+use mathlib.Core.Bool.{Bool, true, false, _||_}
+use lib.ListN.{length, getD, replicate}
 use lib.Dec.{ltb, leb, eqb}
 use Rattle.frame.specs.Octets.{pick, total}
 use Rattle.frame.specs.declared.tlvs.Tlv.{Tlv}
@@ -25,7 +25,7 @@ tlvAt s at =
 
 -- "Information 01 (Local) and 02 (Remote), length 16"; 0 for a type that is not known
 abbrev pub informationLength : ℕ → ℕ
-informationLength t = pick (leb t 2) 16 0
+informationLength t = pick (eqb t 1 || eqb t 2) 16 0
 
 -- "Event TLVs, width in octets of each field": timestamp, window, threshold, errors, error total, event total, by type from 1 on
 abbrev pub rows : List (List ℕ)
@@ -37,7 +37,12 @@ rows =
     ∷ []
 
 unfoldable pub row : ℕ → List ℕ
-row t = getD rows (t - 1) []
+row zero = []
+row (suc t) = getD rows t []
+
+-- the row of a type, zeros for a type that is not in the table
+unfoldable pub widthsOf : ℕ → List ℕ
+widthsOf t = pick (eqb t 0) (replicate 6 0) (pick (ltb 4 t) (replicate 6 0) (row t))
 
 -- the length of an event TLV by its row, 0 for a type that is not in the table
 unfoldable pub eventLength : ℕ → ℕ
@@ -49,7 +54,7 @@ known Events t = eventLength t
 
 -- "or a known type with another length. Unknown types are skipped."
 abbrev pub markOf : ℕ → ℕ → ℕ → ℕ → Mark
-markOf t n next length = pick (eqb length 0) (Unknown next) (pick (eqb n length) (Known t next) Broken)
+markOf t n next expected = pick (eqb expected 0) (Unknown next) (pick (eqb n expected) (Known t next) Broken)
 
 abbrev pub marked : Kind → Tlv → Mark
 marked kind TlvEnd = End

@@ -48,7 +48,7 @@ valueOf s (Indication descriptor octet next) = []
 unfoldable pub valueAt : List ℕ → ℕ → List ℕ
 valueAt s at = valueOf s (containerStep s at)
 
--- a container: its descriptor, and its value or its indication
+-- a container: its descriptor, and its value or its width octet as received, whose low seven bits are the indication
 pub data Container : Type 0 where
   value : ℕ → List ℕ → Container
   indication : ℕ → ℕ → Container
@@ -61,7 +61,7 @@ descriptorNext (Has descriptor n) = has descriptor n
 abbrev pub containerNext : List ℕ → ContainerStep → Next Container
 containerNext s End = stop
 containerNext s Broken = broken
-containerNext s (Value descriptor width n) = has (value descriptor (take width (drop (n - width) s))) n
+containerNext s (Value descriptor width n) = has (value descriptor (valueOf s (Value descriptor width n))) n
 containerNext s (Indication descriptor octet n) = has (indication descriptor octet) n
 
 unfoldable pub descriptorWalk : List ℕ → Walk ℕ

@@ -23,8 +23,8 @@ onNext broken go = breaks
 onNext (skip n) go = over (go n)
 onNext (has p n) go = part p (go n)
 
--- The walk from octet `at`, in at most as many steps. Every step leads on, so a body's length is steps enough
--- (`proofs/Walks.antt`, `enough`).
+-- The walk from octet `at`, in at most as many steps. Every step leads on, so for a body's own length their number does not
+-- matter (`unrolled` of proofs/Places.antt).
 unfoldable pub walk : {P : Type 0} → (ℕ → Next P) → ℕ → ℕ → Walk P
 walk next zero at = ends
 walk next (suc steps) at = onNext (next at) (λ n. walk next steps n)

@@ -1,6 +1,6 @@
-// The flags number of a frame, taken apart by shifts and masks.
+// The flags number of a frame, taken apart and put together by shifts and masks.
 ghost use mathlib.Core.Path.{_≡_};
-ghost use Rattle.frame.specs.Flags.{flagsOf};
+ghost use Rattle.frame.specs.Flags.{bitOf, flagsOf, joined};
 use crate::Flags;
 
 pub fn split_flags(flags: u16) -> Flags
@@ -13,4 +13,21 @@ pub fn split_flags(flags: u16) -> Flags
         local: flags >> 3 & 3,
         remote: flags >> 5 & 3,
     }
+}
+
+fn bit(on: bool) -> u16
+    ensures { λ r. ⌜ r ≡ bitOf on ⌝ }
+{
+    if on { 1 } else { 0 }
+}
+
+// The flags number of its parts, each field cut to its two bits.
+pub fn join_flags(flags: Flags) -> u16
+    ensures { λ r. ⌜ r ≡ joined flags ⌝ }
+{
+    (flags.remote & 3) << 5
+        | (flags.local & 3) << 3
+        | bit(flags.critical) << 2
+        | bit(flags.gasp) << 1
+        | bit(flags.fault)
 }

@@ -2,7 +2,9 @@
 //
 // `read` answers for a whole frame. The parts of its body are then taken in order, one a call, by the step of their
 // kind: `information_step`, `descriptor_step` and `container_step` over `body(frame)`, `event_step` over
-// `events_body(frame)`. Nothing is copied out of a frame but numbers: what is longer is a part of the caller's frame.
+// `events_body(frame)`. Begin at octet 0 of that part, and go on at the octet that each step gives, until the end. A step
+// judges what stands at its octet alone: a second Local is shown as a Local, and it is `read` that refuses such a frame.
+// Nothing is copied out of a frame but numbers: what is longer is a part of the caller's frame.
 mod flag_bits;
 mod lists;
 mod local_remote;
@@ -13,9 +15,11 @@ mod reader;
 mod tlvs;
 mod variables;
 
+pub use flag_bits::join_flags;
 pub use flag_bits::split_flags;
 pub use local_remote::information_step;
 pub use notifications::event_step;
+pub use notifications::event_widths;
 pub use parts::body;
 pub use parts::events_body;
 pub use parts::organization_data;
@@ -40,7 +44,8 @@ pub struct Flags {
     pub remote: u16,
 }
 
-// The fields of one Information TLV, with the bits that are ignored as they were received.
+// The fields of one Information TLV, with the bits that are ignored as they were received; `oampdu` is the OAMPDU
+// configuration, whose low 11 bits are the maximum size.
 pub struct Information {
     pub version: u8,
     pub revision: u16,
@@ -62,7 +67,7 @@ pub struct Found {
     pub remote: Held,
 }
 
-// The fields of one event TLV, in the order of the table of widths.
+// The fields of one event TLV, in the order of the table of widths; `kind` is its type, 1 to 4.
 pub struct Event {
     pub kind: u8,
     pub timestamp: u64,
@@ -73,7 +78,8 @@ pub struct Event {
     pub event_total: u64,
 }
 
-// What a frame says: why it is refused, or its header and what its body starts with.
+// What a frame says: why it is refused, or its header and the body's fixed numbers (event number, command, OUI); of an
+// Information body its Local and Remote TLVs.
 pub enum Reading {
     Refused(u8),
     Information(Header, Found),
@@ -107,7 +113,8 @@ pub enum DescriptorStep {
     Has(u32, usize),
 }
 
-// A container's descriptor, then the number of its value's octets, or its indication.
+// A container's descriptor, then the number of its value's octets, or its width octet as received, 128 or more, whose low
+// seven bits are the indication.
 pub enum ContainerStep {
     End,
     Broken,

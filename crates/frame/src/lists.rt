@@ -10,7 +10,7 @@ use crate::variables::container_step;
 use crate::variables::descriptor_step;
 
 // The kinds of list.
-pub enum Listed {
+pub enum ListKind {
     Events,
     Descriptors,
     Containers,
@@ -57,17 +57,17 @@ fn of_container(step: ContainerStep) -> Place
 }
 
 // What stands at an octet of a list. Of an event only the type and the length are looked at.
-fn place_at(list: Listed, body: &[u8], at: usize) -> Place
+fn place_at(list: ListKind, body: &[u8], at: usize) -> Place
     ensures { λ r. ⌜ r ≡ placeAt list (now (body .entry)) at ⌝ }
 {
     match list {
-        Listed::Events => of_mark(mark_at(Kind::Events, body, at)),
-        Listed::Descriptors => of_descriptor(descriptor_step(body, at)),
-        Listed::Containers => of_container(container_step(body, at)),
+        ListKind::Events => of_mark(mark_at(Kind::Events, body, at)),
+        ListKind::Descriptors => of_descriptor(descriptor_step(body, at)),
+        ListKind::Containers => of_container(container_step(body, at)),
     }
 }
 
-pub(crate) fn is_whole(list: Listed, body: &[u8]) -> bool
+pub(crate) fn is_whole(list: ListKind, body: &[u8]) -> bool
     ensures { λ r. ⌜ r ≡ wholeList list (now (body .entry)) ⌝ }
 {
     let mut at: usize = 0;

@@ -3,7 +3,8 @@ ghost use mathlib.Core.Path.{_≡_};
 ghost use Prim.Native.Nat.{_+_, _≤_};
 ghost use lib.ListN.{length};
 ghost use Rattle.frame.specs.Tlvs.{informationLength};
-ghost use Rattle.frame.specs.Information.{informationAt, informationStep, keepLocal, keepRemote, turnOf, gatheredOf};
+ghost use Rattle.frame.specs.Information.{informationAt, informationStep};
+ghost use Rattle.frame.specs.Reader.{keepLocal, keepRemote, turnOf, gatheredOf};
 use crate::Found;
 use crate::Held;
 use crate::Information;
@@ -28,7 +29,10 @@ pub enum Turn {
 pub(crate) fn information_length(t: u8) -> usize
     ensures { λ r. ⌜ r ≡ informationLength t ⌝ }
 {
-    if t <= 2 { 16 } else { 0 }
+    if t == 1 {
+        return 16;
+    }
+    if t == 2 { 16 } else { 0 }
 }
 
 // The fields of the Information TLV at an octet.

@@ -3,7 +3,7 @@ ghost use mathlib.Core.Path.{_≡_};
 ghost use Prim.Native.Nat.{_+_, _≤_, _<_};
 ghost use lib.ListN.{length};
 ghost use Rattle.frame.specs.Octets.{total};
-ghost use Rattle.frame.specs.Tlvs.{row, eventLength};
+ghost use Rattle.frame.specs.Tlvs.{row, widthsOf, eventLength};
 ghost use Rattle.frame.specs.Events.{fieldsAt, eventAt, eventStep};
 use crate::Event;
 use crate::EventStep;
@@ -13,7 +13,7 @@ use crate::tlvs::Mark;
 use crate::tlvs::mark_at;
 
 // The width in octets of each field, a row for each type from 1 on: timestamp, window, threshold, errors, error
-// total, event total. The reader and the writer go by it.
+// total, event total. The reader and the writers go by it.
 const WIDTHS: [[usize; 6]; 4] = [
     [2, 8, 8, 8, 8, 4],
     [2, 2, 4, 4, 8, 4],
@@ -27,6 +27,19 @@ fn widths_of(t: u8) -> [usize; 6]
 {
     let i = (t - 1) as usize;
     WIDTHS[i]
+}
+
+// The widths of an event's fields by its type; zeros for a type that is not in the table.
+pub fn event_widths(t: u8) -> [usize; 6]
+    ensures { λ r. ⌜ r ≡ widthsOf t ⌝ }
+{
+    if t == 0 {
+        return [0; 6];
+    }
+    if 4 < t {
+        return [0; 6];
+    }
+    widths_of(t)
 }
 
 // A TLV's length by its row, with the type and length octets; 0 for a type that is not in the table.

@@ -2,10 +2,11 @@
 ghost use mathlib.Core.Path.{_≡_};
 ghost use Prim.Native.Nat.{_≤_};
 ghost use lib.ListN.{length};
-ghost use Rattle.frame.specs.Frame.{headerAnswer, headerOf, bodyReading, gatheredReading, listReading, loopbackReading, decode, readingOf};
+ghost use Rattle.frame.specs.Frame.{headerAnswer, decode, readingOf};
+ghost use Rattle.frame.specs.Reader.{headerOf, bodyReading, gatheredReading, listReading, loopbackReading};
 use crate::Header;
 use crate::Reading;
-use crate::lists::Listed;
+use crate::lists::ListKind;
 use crate::lists::is_whole;
 use crate::local_remote::Gathered;
 use crate::local_remote::gather;
@@ -83,15 +84,15 @@ fn body_reading(frame: &[u8], header: Header) -> Reading
     match code {
         0 => gathered_reading(header, gather(body(frame))),
         1 => list_reading(
-            is_whole(Listed::Events, events_body(frame)),
+            is_whole(ListKind::Events, events_body(frame)),
             Reading::Notification(header, number(frame, 18, 2) as u16),
         ),
         2 => list_reading(
-            is_whole(Listed::Descriptors, body(frame)),
+            is_whole(ListKind::Descriptors, body(frame)),
             Reading::Request(header),
         ),
         3 => list_reading(
-            is_whole(Listed::Containers, body(frame)),
+            is_whole(ListKind::Containers, body(frame)),
             Reading::Response(header),
         ),
         4 => loopback_reading(header, frame[18]),

@@ -11,7 +11,7 @@ pub enum Tlv {
     At(u8, usize, usize),
 }
 
-// The same to a kind of body: an unknown TLV, or a known one with its type, and the octet after it.
+// The same as a kind of body sees it: an unknown TLV, or a known one with its type, and the octet after it.
 pub enum Mark {
     End,
     Broken,
@@ -58,13 +58,13 @@ fn known_length(kind: Kind, t: u8) -> usize
     }
 }
 
-fn mark_of(t: u8, length: usize, next: usize, known: usize) -> Mark
-    ensures { λ r. ⌜ r ≡ markOf t length next known ⌝ }
+fn mark_of(t: u8, n: usize, next: usize, expected: usize) -> Mark
+    ensures { λ r. ⌜ r ≡ markOf t n next expected ⌝ }
 {
-    if known == 0 {
+    if expected == 0 {
         Mark::Unknown(next)
     } else {
-        if length == known {
+        if n == expected {
             Mark::Known(t, next)
         } else {
             Mark::Broken

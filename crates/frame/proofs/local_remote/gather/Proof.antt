@@ -4,7 +4,7 @@ use borrow.Author.Needs.{needs}
 use native.Mathlib.Omega.{arith}
 use lib.ListN.{length}
 use denote.Ref.{now}
-use Rattle.frame.specs.Information.{turnOf}
+use Rattle.frame.specs.Reader.{turnOf}
 use Rattle.frame.specs.declared.InformationStep.{InformationStep}
 use Rattle.frame.proofs.Gathering.{Going, Gone, one-turn, start}
 use Rattle.frame.proofs.local_remote.gather.Statement.{statement}

@@ -1,5 +1,5 @@
-use mathlib.Core.Path.{refl}
-use Rattle.frame.specs.Tlvs.{row}
+use Rattle.frame.proofs.Rows.{row-at}
+use native.Mathlib.Omega.{arith}
 use borrow.Author.Needs.{needs}
 use Rattle.frame.proofs.notifications.widths_of.Statement.{statement}
 use Rattle.frame.proofs.notifications.widths_of.Tie as tie
@@ -17,8 +17,7 @@ array-copy-out-result : tie.Need-array-copy-out-result
 array-copy-out-result c = search needs
 
 returns : tie.Need-returns
-unfolding row
-returns c = refl
+returns c = row-at (c .before .args .t) (omega arith)
 
 pub widths-of-spec : {M : Type 1} → statement M
 widths-of-spec = tie.close (tie.spec sub-i cast-i mul-result array-copy-out-result returns)

@@ -1,4 +1,4 @@
-use Rattle.frame.specs.Frame.{headerOf}
+use Rattle.frame.specs.Reader.{headerOf}
 use borrow.Author.Needs.{needs}
 use Rattle.frame.proofs.reader.header_of.Statement.{statement}
 use Rattle.frame.proofs.reader.header_of.Tie as tie

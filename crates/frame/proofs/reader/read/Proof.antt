@@ -1,6 +1,6 @@
 use mathlib.Core.Path.{sym, ap, _∙_}
 use denote.Ref.{now}
-use Rattle.frame.specs.Frame.{bodyReading}
+use Rattle.frame.specs.Reader.{bodyReading}
 use Rattle.frame.specs.declared.Reading.the-variants.{Refused}
 use Rattle.frame.proofs.Decoding.{header-long, reading-refused, reading}
 use borrow.Author.Needs.{needs}
