@@ -18,6 +18,7 @@ mod variables;
 pub use flag_bits::join_flags;
 pub use flag_bits::split_flags;
 pub use local_remote::information_step;
+pub use notifications::event_length;
 pub use notifications::event_step;
 pub use notifications::event_widths;
 pub use parts::body;

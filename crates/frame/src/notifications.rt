@@ -43,7 +43,7 @@ pub fn event_widths(t: u8) -> [usize; 6]
 }
 
 // A TLV's length by its row, with the type and length octets; 0 for a type that is not in the table.
-pub(crate) fn event_length(t: u8) -> usize
+pub fn event_length(t: u8) -> usize
     ensures { λ r. ⌜ r ≡ eventLength t ⌝ }
 {
     if t == 0 {
