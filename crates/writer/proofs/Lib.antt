@@ -1,0 +1,5 @@
+pub mod Stores
+pub mod Tests
+pub mod Writers
+pub mod Sevens
+pub mod Descriptors

@@ -1,0 +1,28 @@
+use Rattle.writer.proofs.Writers.{length-information}
+use native.Mathlib.Omega.{arith}
+use borrow.Author.Needs.{needs}
+use Rattle.writer.proofs.local_remote.put_held.Statement.{statement}
+use Rattle.writer.proofs.local_remote.put_held.Tie as tie
+
+enum-told : tie.Need-enum-told
+enum-told c = search needs
+
+enum-known-held : tie.Need-enum-known-held
+enum-known-held c = search needs
+
+put-information-requires : tie.Need-put-information-requires
+put-information-requires c κs = omega (arith, rw (c .before .before .held .given .1) at (c .before .before .before .before .before .pre), length-information (c .before .before .before .before .before .args .t) (c .before .before .held .given .0 .0))
+
+returns : tie.Need-returns
+returns c = search needs
+
+same-length : tie.Need-same-length
+same-length c = search needs
+
+returns-2 : tie.Need-returns-2
+returns-2 c = rw (c .before .before .before .before .before .held .given .1) (c .before .before .put-information .ensures)
+
+pub put-held-spec : {M : Type 1} → statement M
+put-held-spec =
+    tie.close
+    (tie.spec enum-told enum-known-held put-information-requires returns same-length returns-2)

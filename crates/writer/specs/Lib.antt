@@ -1,0 +1,4 @@
+pub mod Octets
+pub mod Encode
+pub mod Plain
+pub mod Writing

@@ -1,0 +1,24 @@
+// Writes OAM frames in plain form, straight into the caller's output.
+//
+// Every writer answers 10 for what has no plain form, then 9 where the output is too short, and touches the output only
+// after both tests. What it writes reads back as what was meant (`proofs/RoundTrip.antt`).
+mod events;
+mod header;
+mod local_remote;
+mod octets;
+mod requests;
+mod small;
+
+pub use events::plain_event;
+pub use events::write_notification;
+pub use local_remote::write_information;
+pub use octets::fits;
+pub use requests::write_request;
+pub use small::write_loopback;
+pub use small::write_organization;
+
+// A refusal's number, or the length of the frame that was written.
+pub enum Written {
+    Refused(u8),
+    Wrote(usize),
+}

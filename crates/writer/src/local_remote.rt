@@ -1,0 +1,128 @@
+// The Information frame.
+ghost use mathlib.Core.Path.{_≡_};
+ghost use Prim.Native.Nat.{_+_, _≤_};
+ghost use lib.ListN.{length};
+ghost use lib.Seq.{sets};
+ghost use Rattle.frame.specs.Frame.{information};
+ghost use Rattle.writer.specs.Encode.{informationOctets, heldOctets};
+ghost use Rattle.writer.specs.Plain.{plainInformation, plainParts, plain};
+ghost use Rattle.writer.specs.Writing.{Writing, messageOf, partsFrom, partsOf, plainLocal};
+use crate::Written;
+use crate::header::finish;
+use crate::header::plain_header;
+use crate::header::put_header;
+use crate::octets::put_fields;
+use frame::Found;
+use frame::Held;
+use frame::Information;
+
+fn plain_information(i: Information) -> bool
+    ensures { λ r. ⌜ r ≡ plainInformation i ⌝ }
+{
+    if 8 <= i.state {
+        return false;
+    }
+    if 32 <= i.configuration {
+        return false;
+    }
+    if 2048 <= i.oampdu {
+        return false;
+    }
+    i.oui < 0x1000000
+}
+
+// Where there is a Local, whether it has a plain form, and the Remote if there is one.
+fn plain_local(i: Information, remote: Held) -> bool
+    ensures { λ r. ⌜ r ≡ plainLocal i remote ⌝ }
+{
+    match remote {
+        Held::Nothing => plain_information(i),
+        Held::Is(j) => {
+            if plain_information(i) {
+                plain_information(j)
+            } else {
+                false
+            }
+        }
+    }
+}
+
+// Whether the TLVs to be written have a plain form; a Remote without a Local has none.
+fn plain_found(local: Held, remote: Held) -> bool
+    ensures { λ r. ⌜ r ≡ plainParts (partsFrom local remote) ⌝ }
+{
+    match local {
+        Held::Is(i) => plain_local(i, remote),
+        Held::Nothing => match remote {
+            Held::Nothing => true,
+            Held::Is(_) => false,
+        },
+    }
+}
+
+// Stores an Information TLV of a type from octet at.
+fn put_information(out: &mut [u8], at: usize, t: u8, i: Information)
+    requires { ⌜ at + 16 ≤ length (now out) ⌝ }
+    ensures { λ _. ⌜ now (out .exit) ≡ sets (now (out .entry)) at (informationOctets t i) ⌝ }
+{
+    let widths: [usize; 9] = [1, 1, 1, 2, 1, 1, 2, 3, 4];
+    let values: [u64; 9] = [
+        t as u64,
+        16,
+        i.version as u64,
+        i.revision as u64,
+        i.state as u64,
+        i.configuration as u64,
+        i.oampdu as u64,
+        i.oui as u64,
+        i.vendor as u64,
+    ];
+    put_fields(out, at, &widths, &values);
+}
+
+// Stores a TLV from octet at where there is one.
+fn put_held(out: &mut [u8], at: usize, t: u8, held: Held)
+    requires { ⌜ at + length (heldOctets t held) ≤ length (now out) ⌝ }
+    ensures { λ _. ⌜ now (out .exit) ≡ sets (now (out .entry)) at (heldOctets t held) ⌝ }
+{
+    match held {
+        Held::Nothing => {}
+        Held::Is(i) => {
+            put_information(out, at, t, i);
+        }
+    }
+}
+
+// The octet after a TLV that may stand at octet at.
+fn after_held(at: usize, t: u8, held: Held) -> usize
+    requires { ⌜ at ≤ 34 ⌝ }
+    ensures { λ r. ⌜ (r ≡ at + length (heldOctets t held)) × (r ≤ at + 16) ⌝ }
+{
+    match held {
+        Held::Nothing => at,
+        Held::Is(_) => at + 16,
+    }
+}
+
+// Writes an Information frame with no TLV, the Local, or the Local and then the Remote.
+pub fn write_information(source: u64, flags: u16, found: Found, out: &mut [u8]) -> Written
+    ensures { λ r. ⌜ Writing (messageOf source flags (information (partsOf found))) (now (out .entry)) r (now (out .exit)) ⌝ }
+{
+    let local = found.local;
+    let remote = found.remote;
+    if !plain_header(source, flags) {
+        return Written::Refused(10);
+    }
+    if !plain_found(local, remote) {
+        return Written::Refused(10);
+    }
+    if out.len() < 60 {
+        return Written::Refused(9);
+    }
+    let middle = after_held(18, 1, local);
+    let end = after_held(middle, 2, remote);
+    put_header(out, source, flags, 0);
+    put_held(out, 18, 1, local);
+    put_held(out, middle, 2, remote);
+    finish(out, end)
+}

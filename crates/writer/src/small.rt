@@ -1,0 +1,78 @@
+// The Loopback Control frame and the organization specific frame.
+ghost use mathlib.Core.Path.{_≡_};
+ghost use mathlib.Core.Bool.{_||_};
+ghost use lib.Dec.{eqb};
+ghost use Rattle.frame.specs.Frame.{loopback, organization};
+ghost use Rattle.writer.specs.Plain.{plainOrganization};
+ghost use Rattle.writer.specs.Writing.{Writing, messageOf};
+use crate::Written;
+use crate::header::finish;
+use crate::header::plain_header;
+use crate::header::put_header;
+use crate::octets::put_number;
+use crate::octets::put_octets;
+
+fn plain_command(command: u8) -> bool
+    ensures { λ r. ⌜ r ≡ (eqb command 1 || eqb command 2) ⌝ }
+{
+    if command == 1 {
+        return true;
+    }
+    command == 2
+}
+
+// Writes a Loopback Control frame.
+pub fn write_loopback(source: u64, flags: u16, command: u8, out: &mut [u8]) -> Written
+    ensures { λ r. ⌜ Writing (messageOf source flags (loopback command)) (now (out .entry)) r (now (out .exit)) ⌝ }
+{
+    if !plain_header(source, flags) {
+        return Written::Refused(10);
+    }
+    if !plain_command(command) {
+        return Written::Refused(10);
+    }
+    if out.len() < 60 {
+        return Written::Refused(9);
+    }
+    put_header(out, source, flags, 4);
+    put_number(out, 18, 1, command as u64);
+    finish(out, 19)
+}
+
+fn plain_organization(oui: u32, octets: usize) -> bool
+    ensures { λ r. ⌜ r ≡ plainOrganization oui octets ⌝ }
+{
+    if 0x1000000 <= oui {
+        return false;
+    }
+    if octets < 39 {
+        return false;
+    }
+    octets <= 1493
+}
+
+// Writes an organization specific frame: the OUI and the organization's data.
+pub fn write_organization(
+    source: u64,
+    flags: u16,
+    oui: u32,
+    octets: &[u8],
+    out: &mut [u8],
+) -> Written
+    ensures { λ r. ⌜ Writing (messageOf source flags (organization oui (now (octets .entry)))) (now (out .entry)) r (now (out .exit)) ⌝ }
+{
+    if !plain_header(source, flags) {
+        return Written::Refused(10);
+    }
+    if !plain_organization(oui, octets.len()) {
+        return Written::Refused(10);
+    }
+    let end = 21 + octets.len();
+    if out.len() < end {
+        return Written::Refused(9);
+    }
+    put_header(out, source, flags, 0xfe);
+    put_number(out, 18, 3, oui as u64);
+    put_octets(out, 21, octets);
+    finish(out, end)
+}
