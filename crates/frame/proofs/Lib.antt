@@ -7,5 +7,4 @@ pub mod Wholes
 pub mod Places
 pub mod Decoding
 pub mod Stepping
-pub mod Answers
 pub mod FlagLaws

@@ -25,7 +25,7 @@ row-at zero h = absurd (omega arith)
 row-at (suc t) h = let e : suc t - 1 ≡ t = omega arith in rw e
 
 -- what holds of the four rows holds of each
-four : (P : List ℕ → Type 0) → P (row 1) → P (row 2) → P (row 3) → P (row 4) → (t : ℕ) → 0 < t → t ≤ 4 → P (row t)
+pub four : (P : List ℕ → Type 0) → P (row 1) → P (row 2) → P (row 3) → P (row 4) → (t : ℕ) → 0 < t → t ≤ 4 → P (row t)
 four P a b c d zero l h = absurd (omega arith)
 four P a b c d (suc zero) l h = a
 four P a b c d (suc (suc zero)) l h = b

@@ -1,77 +1,109 @@
--- Taking the steps of a body from its start gives exactly the parts of the message that the frame says.
-use Prim.Native.Nat.{ℕ}
-use mathlib.Core.Path.{_≡_, refl, sym, ap, _∙_, subst}
-use mathlib.Core.List.{List, [], _∷_}
-use mathlib.Core.Bool.{Bool, true, false, _||_}
+-- What the answer to a frame says, by the frame's octets: one of the numbers 1 to 8, or the header that stands there and
+-- exactly the parts that a caller meets who takes the steps of the body from its start.
+use Prim.Native.Nat.{ℕ, _≤_}
+use mathlib.Core.Path.{_≡_, refl, sym, ap, subst}
+use mathlib.Core.List.{List, _∷_}
+use mathlib.Core.Bool.{Bool, true, false, not, _||_}
 use native.Mathlib.Omega.{arith}
-use lib.ListN.{getD, drop}
-use lib.Dec.{eqb}
+use borrow.Author.Tests.{eqb-true, eqb-false}
+use lib.ListN.{length, getD, drop}
+use lib.Dec.{ltb, eqb}
 use Rattle.frame.specs.Octets.{num}
 use Rattle.frame.specs.Walk.{Walk, ends, breaks, over, part, met, Parsed, refused as unread, parts, also, listed}
 use Rattle.frame.specs.Information.{InformationPart, local, remote, informationWalk, informationParts}
 use Rattle.frame.specs.Events.{eventWalk}
 use Rattle.frame.specs.Variables.{descriptorWalk, containerWalk}
-use Rattle.frame.specs.Frame.{Body, Message, Answer, refused, accepted, information, notification, request, response, loopback, organization, says, saysAll, headerAnswer, bodyAnswer, decode}
+use Rattle.frame.specs.Frame.{Body, Message, codeOf, Answer, refused, accepted, information, notification, request, response, loopback, organization, says, saysAll, headerAnswer, bodyAnswer, decode}
 use Rattle.frame.specs.Steps.{Stepped}
 use Rattle.frame.proofs.Walks.{by-pick}
 
--- a list that begins with p, of what comes after it
-after : {P : Type 0} (p : P) (x : Parsed P) (ps : List P) → also p x ≡ parts ps → (qs : List P) × (x ≡ parts qs) × (ps ≡ p ∷ qs)
-after p (unread n) ps e = let z : _≡_ {A = ℕ} 0 1 = cc in absurd (omega arith)
-after p (parts qs) ps e = let k : ps ≡ p ∷ qs = cc in (qs, refl, k)
+-- a number that the reader gives
+abbrev Given : ℕ → Type 0
+Given n = (1 ≤ n) × (n ≤ 8)
 
--- the parts of a list, and of an Information body, are what the walk met
-met-listed : {P : Type 0} (w : Walk P) (ps : List P) → listed w ≡ parts ps → ps ≡ met w
-met-listed ends ps e = cc
-met-listed breaks ps e = let z : _≡_ {A = ℕ} 0 1 = cc in absurd (omega arith)
-met-listed (over w) ps e = met-listed w ps e
-met-listed (part p w) ps e =
-    let a = after p (listed w) ps e in
-    a .2 ∙ ap (λ qs. p ∷ qs) (met-listed w (a .0) (a .1))
+-- what is made of the parts that were met: such a number, or just those
+abbrev Parses : {P : Type 0} → List P → Parsed P → Type 0
+Parses met (unread n) = Given n
+Parses met (parts ps) = ps ≡ met
 
-met-parts : (l r : Bool) (w : Walk InformationPart) (ps : List InformationPart) → informationParts l r w ≡ parts ps → ps ≡ met w
-met-parts l r ends ps e = cc
-met-parts l r breaks ps e = let z : _≡_ {A = ℕ} 0 1 = cc in absurd (omega arith)
-met-parts l r (over w) ps e = met-parts l r w ps e
-met-parts true r (part (local i) w) ps e = let z : _≡_ {A = ℕ} 0 1 = cc in absurd (omega arith)
-met-parts false r (part (local i) w) ps e =
-    let a = after (local i) (informationParts true r w) ps e in
-    a .2 ∙ ap (λ qs. local i ∷ qs) (met-parts true r w (a .0) (a .1))
-met-parts l true (part (remote i) w) ps e = let z : _≡_ {A = ℕ} 0 1 = cc in absurd (omega arith)
-met-parts l false (part (remote i) w) ps e =
-    let a = after (remote i) (informationParts l true w) ps e in
-    a .2 ∙ ap (λ qs. remote i ∷ qs) (met-parts l true w (a .0) (a .1))
+parses-also : {P : Type 0} (p : P) (met : List P) (x : Parsed P) → Parses met x → Parses (p ∷ met) (also p x)
+parses-also p met (unread n) h = h
+parses-also p met (parts ps) h = ap (λ qs. p ∷ qs) h
 
-module _ (f : List ℕ) (m : Message) where
-  -- an answer that accepts m shows its parts by the steps
-  abbrev Shows : Answer → Type 0
-  Shows a = a ≡ accepted m → Stepped f (m .body)
+parses-listed : {P : Type 0} (w : Walk P) → Parses (met w) (listed w)
+parses-listed ends = refl
+parses-listed breaks = (omega arith, omega arith)
+parses-listed (over w) = parses-listed w
+parses-listed (part p w) = parses-also p (met w) (listed w) (parses-listed w)
 
-  by-body : (b : Body) → Stepped f b → Shows (says f b)
-  by-body b h e = let k : b ≡ m .body = ap bodyOf e in subst (Stepped f) k h
-    where
-      bodyOf : Answer → Body
-      bodyOf (accepted n) = n .body
-      bodyOf (refused n) = b
+parses-information : (l r : Bool) (w : Walk InformationPart) → Parses (met w) (informationParts l r w)
+parses-information l r ends = refl
+parses-information l r breaks = (omega arith, omega arith)
+parses-information l r (over w) = parses-information l r w
+parses-information true r (part (local i) w) = (omega arith, omega arith)
+parses-information false r (part (local i) w) = parses-also (local i) (met w) (informationParts true r w) (parses-information true r w)
+parses-information l true (part (remote i) w) = (omega arith, omega arith)
+parses-information l false (part (remote i) w) = parses-also (remote i) (met w) (informationParts l true w) (parses-information l true w)
 
-  by-parts : {P : Type 0} (make : List P → Body) (x : Parsed P) → ((ps : List P) → x ≡ parts ps → Stepped f (make ps)) → Shows (saysAll f make x)
-  by-parts make (unread n) h e = let z : _≡_ {A = ℕ} 0 1 = cc in absurd (omega arith)
-  by-parts make (parts ps) h e = by-body (make ps) (h ps refl) e
+-- a message that is shown: what stands in the header, which passed its tests, and the parts that the steps give
+pub record Shown (f : List ℕ) (m : Message) : Type 0 where
+  pub passed : headerAnswer f ≡ 0
+  pub source : num 6 f 6 ≡ m .source
+  pub flags : num 2 f 15 ≡ m .flags
+  pub code : getD f 17 0 ≡ codeOf (m .body)
+  pub body : Stepped f (m .body)
 
-  never : (n : ℕ) → Shows (refused n)
-  never n e = let z : _≡_ {A = ℕ} 0 1 = cc in absurd (omega arith)
+module _ (f : List ℕ) where
+  abbrev Tells : Answer → Type 0
+  Tells (refused n) = Given n
+  Tells (accepted m) = Shown f m
 
-  pub steps-give-parts : Shows (decode f)
-  unfolding decode bodyAnswer
-  steps-give-parts =
-      let code = getD f 17 0 in
-      let command = getD f 18 0 in
-      let s = drop 18 f in
-      by-pick Shows (eqb (headerAnswer f) 0) (λ _.
-      by-pick Shows (eqb code 0) (λ _. by-parts information (informationParts false false (informationWalk s)) (met-parts false false (informationWalk s))) (λ _.
-      by-pick Shows (eqb code 1) (λ _. by-parts (notification (num 2 f 18)) (listed (eventWalk (drop 20 f))) (λ ps e. (refl, met-listed (eventWalk (drop 20 f)) ps e))) (λ _.
-      by-pick Shows (eqb code 2) (λ _. by-parts request (listed (descriptorWalk s)) (met-listed (descriptorWalk s))) (λ _.
-      by-pick Shows (eqb code 3) (λ _. by-parts response (listed (containerWalk s)) (met-listed (containerWalk s))) (λ _.
-      by-pick Shows (eqb code 4) (λ _. by-pick Shows (eqb command 1 || eqb command 2) (λ _. by-body (loopback command) refl) (λ _. never 8)) (λ _.
-      by-pick Shows (eqb code 0xfe) (λ _. by-body (organization (num 3 f 18) (drop 21 f)) (refl, refl)) (λ _. never 5)))))))
-      (λ _. never (headerAnswer f))
+  header-tells : (headerAnswer f ≡ 0 → ⊥) → Given (headerAnswer f)
+  unfolding headerAnswer
+  header-tells =
+      let P : ℕ → Type 0 = λ (n : ℕ). (n ≡ 0 → ⊥) → Given n in
+      by-pick P (ltb (length f) 60 || ltb 1514 (length f)) (λ _ _. (omega arith, omega arith)) (λ _.
+      by-pick P (not (eqb (num 6 f 0) 0x0180_c200_0002)) (λ _ _. (omega arith, omega arith)) (λ _.
+      by-pick P (not (eqb (num 2 f 12) 0x8809)) (λ _ _. (omega arith, omega arith)) (λ _.
+      by-pick P (not (eqb (getD f 14 0) 3)) (λ _ _. (omega arith, omega arith)) (λ _ z. absurd (z refl)))))
+
+  module _ (h : headerAnswer f ≡ 0) where
+    tells : (b : Body) → eqb (getD f 17 0) (codeOf b) ≡ true → Stepped f b → Tells (says f b)
+    tells b t s = record { passed = h; source = refl; flags = refl; code = eqb-true (getD f 17 0) (codeOf b) t; body = s }
+
+    tells-all : {P : Type 0} (make : List P → Body) (w : Walk P) (x : Parsed P) → Parses (met w) x
+        → ((ps : List P) → eqb (getD f 17 0) (codeOf (make ps)) ≡ true) → ((ps : List P) → ps ≡ met w → Stepped f (make ps)) → Tells (saysAll f make x)
+    tells-all make w (unread n) p t s = p
+    tells-all make w (parts ps) p t s = tells (make ps) (t ps) (s ps p)
+
+    body-tells : Tells (bodyAnswer f (getD f 17 0))
+    unfolding bodyAnswer
+    body-tells =
+        let code = getD f 17 0 in
+        let command = getD f 18 0 in
+        let i = informationWalk (drop 18 f) in
+        let e = eventWalk (drop 20 f) in
+        let d = descriptorWalk (drop 18 f) in
+        let c = containerWalk (drop 18 f) in
+        by-pick Tells (eqb code 0) (λ t. tells-all information i (informationParts false false i) (parses-information false false i) (λ _. t) (λ _ s. s)) (λ _.
+        by-pick Tells (eqb code 1) (λ t. tells-all (notification (num 2 f 18)) e (listed e) (parses-listed e) (λ _. t) (λ _ s. (refl, s))) (λ _.
+        by-pick Tells (eqb code 2) (λ t. tells-all request d (listed d) (parses-listed d) (λ _. t) (λ _ s. s)) (λ _.
+        by-pick Tells (eqb code 3) (λ t. tells-all response c (listed c) (parses-listed c) (λ _. t) (λ _ s. s)) (λ _.
+        by-pick Tells (eqb code 4) (λ t. by-pick Tells (eqb command 1 || eqb command 2) (λ _. tells (loopback command) t refl) (λ _. (omega arith, omega arith))) (λ _.
+        by-pick Tells (eqb code 0xfe) (λ t. tells (organization (num 3 f 18) (drop 21 f)) t (refl, refl)) (λ _. (omega arith, omega arith)))))))
+
+  answer-tells : Tells (decode f)
+  unfolding decode
+  answer-tells =
+      by-pick Tells (eqb (headerAnswer f) 0) (λ h. body-tells (eqb-true (headerAnswer f) 0 h)) (λ h. header-tells (eqb-false (headerAnswer f) 0 h))
+
+  pub shown : (m : Message) → decode f ≡ accepted m → Shown f m
+  shown m e = subst Tells e answer-tells
+
+  -- taking the steps of a body from its start gives exactly the parts of the message that the frame says
+  pub steps-give-parts : (m : Message) → decode f ≡ accepted m → Stepped f (m .body)
+  steps-give-parts m e = shown m e .body
+
+  -- a refused frame is answered one of the paper's numbers 1 to 8
+  pub refused-number : (n : ℕ) → decode f ≡ refused n → (1 ≤ n) × (n ≤ 8)
+  refused-number n e = subst Tells e answer-tells

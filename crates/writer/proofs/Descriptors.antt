@@ -1,16 +1,17 @@
 -- Laws of the descriptors of a Variable Request.
 use Prim.Native.Nat.{ℕ, suc, _+_, _*_, _<_}
-use mathlib.Core.Path.{_≡_, refl, sym, ap, _∙_}
-use mathlib.Core.List.{List, [], _∷_, _++_}
-use mathlib.Core.Bool.{Bool, _&&_}
+use mathlib.Core.Path.{_≡_, _∙_}
+use mathlib.Core.List.{List}
+use mathlib.Core.Bool.{_&&_}
 use native.Mathlib.Omega.{arith}
 use native.Mathlib.Numerals.{add-one}
-use lib.ListN.{length, getD, drop, length-append}
+use lib.ListN.{length, getD, drop}
 use lib.Seq.{sets, drop-cons}
 use Rattle.writer.specs.Octets.{oct}
 use Rattle.writer.specs.Encode.{joined}
 use Rattle.writer.specs.Plain.{every, plainDescriptor}
-use Rattle.writer.proofs.Stores.{length-oct, sets-append}
+use Rattle.writer.proofs.Lengths.{length-oct, length-joined}
+use Rattle.writer.proofs.Stores.{sets-append}
 
 -- a turn of `plain_descriptors`
 pub next-descriptor : (ds : List ℕ) (i : ℕ) → i < length ds → every plainDescriptor (drop i ds) ≡ (plainDescriptor (getD ds i 0) && every plainDescriptor (drop (i + 1) ds))
@@ -24,5 +25,4 @@ put-descriptor l i ds h =
     rw (add-one i, drop-cons ds i 0 h) (sets-append l (18 + 3 * i) (oct 3 (getD ds i 0)) (joined (oct 3) (drop (suc i) ds)) ∙ rw e)
 
 pub length-descriptors : (ds : List ℕ) → length (joined (oct 3) ds) ≡ 3 * length ds
-length-descriptors [] = omega arith
-length-descriptors (d ∷ ds) = omega (arith, length-append (oct 3 d) (joined (oct 3) ds), length-oct 3 d, length-descriptors ds)
+length-descriptors = length-joined (oct 3) 3 (length-oct 3)

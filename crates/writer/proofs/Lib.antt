@@ -1,3 +1,15 @@
+pub mod Bools
+pub mod Lengths
+pub mod Numbers
+pub mod Walking
+pub mod Marking
+pub mod Informing
+pub mod Eventing
+pub mod Describing
+pub mod Heading
+pub mod Sizes
+pub mod RoundTrip
+pub mod Fitting
 pub mod Stores
 pub mod Tests
 pub mod Writers

@@ -4,26 +4,21 @@ use mathlib.Core.Path.{_≡_, refl, sym, ap, _∙_}
 use mathlib.Core.List.{List, [], _∷_, _++_}
 use mathlib.Core.Bool.{Bool, true, false, _&&_, and-eq-true-iff}
 use native.Mathlib.Omega.{arith}
-use native.Mathlib.Numerals.{add-one}
 use borrow.Author.Tests.{eqb-true, leb-true, le-leb, lt-leb, lt-ltb, le-ltb, ne-eqb, eq-eqb}
-use lib.Dec.{ltb, leb, eqb}
-use lib.ListN.{length, getD, take, drop, length-take, length-drop, length-append}
-use lib.Seq.{sets, take-all, drop-drop}
-use Rattle.frame.specs.Octets.{pick, total}
+use lib.Dec.{leb, eqb}
+use lib.ListN.{length, getD, take, drop, length-take, length-append}
+use lib.Seq.{sets, drop-drop}
+use Rattle.frame.specs.Octets.{pick}
 use Rattle.frame.specs.Tlvs.{row, widthsOf, eventLength}
-use Rattle.frame.specs.Events.{eventOf}
 use Rattle.frame.specs.Frame.{notification}
 use Rattle.frame.specs.declared.Event.{Event}
-use Rattle.frame.proofs.Rows.{row-of}
 use Rattle.writer.specs.Octets.{oct, octs, fit}
 use Rattle.writer.specs.Encode.{eventValues, eventOctets, joined}
 use Rattle.writer.specs.Plain.{between, every, plainEvent, plainEvents, eventsLength, plainBody}
 use Rattle.writer.specs.Writing.{eventFrom, plainSeven, eventsFrom, eventsOf, measured, measuredSeven}
-use Rattle.writer.proofs.Stores.{length-oct, sets-append}
-use Rattle.writer.proofs.Writers.{endOf}
-
-never : {P : Type 0} → _≡_ {A = Bool} false true → P
-never e = let z : _≡_ {A = ℕ} 0 1 = cc in absurd (omega arith)
+use Rattle.writer.proofs.Bools.{never}
+use Rattle.writer.proofs.Lengths.{length-oct, tabled, length-events, events-short, endOf}
+use Rattle.writer.proofs.Stores.{sets-append}
 
 -- the test of a pick with false: both hold
 pick-true : (a b : Bool) → pick a b false ≡ true → (a ≡ true) × (b ≡ true)
@@ -58,10 +53,6 @@ event-take vs l = by-cells (λ (x : List ℕ). eventFrom (take 7 x) ≡ eventFro
 pub widths-row : (t : ℕ) → 0 < t → t ≤ 4 → widthsOf t ≡ row t
 unfolding widthsOf
 widths-row t l h = simp (ne-eqb t 0 (λ e. omega arith), le-ltb 4 t h)
-
-pub length-row : (t : ℕ) → 0 < t → t ≤ 4 → eventLength t ≡ 2 + total (row t)
-unfolding eventLength
-length-row t l h = simp (ne-eqb t 0 (λ e. omega arith), le-ltb 4 t h)
 
 -- what an event in plain form is
 pub record Seven (vs : List ℕ) : Type 0 where
@@ -98,51 +89,6 @@ event-stored d at vs s =
     let e : at + 1 + 1 ≡ at + 2 = omega arith in
     rw (six-values vs (s .long))
     (sym (sets-append d at (oct 1 k) (oct 1 l ++ x) ∙ sets-append (sets d at (oct 1 k)) (at + 1) (oct 1 l) x ∙ rw e))
-
--- ---- the length of an event, and of events
-
-pub length-octs : (ws vs : List ℕ) → length ws ≤ length vs → length (octs ws vs) ≡ total ws
-length-octs [] vs h = refl
-length-octs (w ∷ ws) [] h = absurd (omega arith)
-length-octs (w ∷ ws) (v ∷ vs) h = omega (arith, length-append (oct w v) (octs ws vs), length-oct w v, length-octs ws vs (omega arith))
-
--- what the plain form says of an event
-pub record Tabled (e : Event) : Type 0 where
-  pub least : 0 < e .kind
-  pub most : e .kind ≤ 4
-  pub sized : eventLength (e .kind) ≡ 2 + total (row (e .kind))
-  pub short : eventLength (e .kind) ≤ 50
-  pub long : length (eventOctets e) ≡ eventLength (e .kind)
-
-pub tabled : (e : Event) → plainEvent e ≡ true → Tabled e
-unfolding plainEvent eventOctets
-tabled e h =
-    let k = e .kind in
-    let q = and-eq-true-iff (between 1 4 k) (fit (row k) (eventValues e)) .0 h in
-    let r = and-eq-true-iff (leb 1 k) (leb k 4) .0 (q .0) in
-    let a = leb-true 1 k (r .0) in
-    let b = leb-true k 4 (r .1) in
-    let w = row-of k a b in
-    let s = length-row k a b in
-    record {
-      least = a;
-      most = b;
-      sized = s;
-      short = omega (arith, s, w .sum, w .narrow 0, w .narrow 1, w .narrow 2, w .narrow 3, w .narrow 4, w .narrow 5);
-      long = omega (arith, s, length-octs (row k) (eventValues e) (omega (arith, w .six)));
-    }
-
-pub length-events : (es : List Event) → every plainEvent es ≡ true → length (joined eventOctets es) ≡ eventsLength es
-length-events [] h = refl
-length-events (e ∷ es) h =
-    let p = and-eq-true-iff (plainEvent e) (every plainEvent es) .0 h in
-    omega (arith, length-append (eventOctets e) (joined eventOctets es), tabled e (p .0) .long, length-events es (p .1))
-
-events-short : (es : List Event) → every plainEvent es ≡ true → eventsLength es ≤ 50 * length es
-events-short [] h = omega arith
-events-short (e ∷ es) h =
-    let p = and-eq-true-iff (plainEvent e) (every plainEvent es) .0 h in
-    omega (arith, tabled e (p .0) .short, events-short es (p .1))
 
 pub length-from : (n : ℕ) (vs : List ℕ) → length (eventsFrom n vs) ≡ n
 length-from zero vs = refl

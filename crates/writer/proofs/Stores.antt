@@ -1,19 +1,16 @@
 -- Laws of runs of stores, and one turn of each loop that stores.
-use Prim.Native.Nat.{ℕ, zero, suc, _+_, _-_, _/_, _%_, _^_, _<_, _≤_}
-use mathlib.Core.Path.{_≡_, refl, sym, ap, _∙_}
+use Prim.Native.Nat.{ℕ, zero, suc, _+_, _-_, _/_, _%_, _^_, _<_}
+use mathlib.Core.Path.{_≡_, refl, ap, _∙_}
 use mathlib.Core.List.{List, [], _∷_, _++_}
-use mathlib.Core.Bool.{Bool, _&&_}
+use mathlib.Core.Bool.{_&&_}
 use native.Mathlib.Numerals.{add-one}
-use native.Mathlib.Nat.{add-zero, pow-le-pow-right}
+use native.Mathlib.Nat.{add-zero}
 use native.Mathlib.Omega.{arith}
 use lib.Dec.{ltb}
-use lib.ListN.{length, getD, drop, set, length-append, replicate}
+use lib.ListN.{length, getD, drop, set, replicate}
 use lib.Seq.{sets, set-comm, drop-cons}
 use Rattle.writer.specs.Octets.{oct, octs, fit}
-
-pub length-oct : (width value : ℕ) → length (oct width value) ≡ width
-length-oct zero value = refl
-length-oct (suc width) value = length-append (oct width (value / 256)) (value % 256 ∷ []) ∙ ap (λ (n : ℕ). n + 1) (length-oct width (value / 256)) ∙ add-one width
+use Rattle.writer.proofs.Lengths.{length-oct}
 
 -- a run of stores in two runs
 pub sets-append : (l : List ℕ) (at : ℕ) (xs ys : List ℕ) → sets l at (xs ++ ys) ≡ sets (sets l at xs) (at + length xs) ys

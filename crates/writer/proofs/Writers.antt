@@ -1,49 +1,22 @@
 -- What each writer comes to: refused with 10, refused with 9, or the header, the body and zeros stored one after another.
 use Prim.Native.Nat.{ℕ, _+_, _-_, _<_, _≤_, max}
 use mathlib.Core.Path.{_≡_, refl, sym, ap, _∙_}
-use mathlib.Core.List.{List, [], _∷_, _++_, append-nil}
-use mathlib.Core.Bool.{Bool, true, false, _&&_}
-use native.Mathlib.Nat.{zero-add}
+use mathlib.Core.List.{List, _++_, append-nil}
+use mathlib.Core.Bool.{true, false}
 use native.Mathlib.Omega.{arith}
 use borrow.Author.Tests.{lt-ltb, le-ltb}
-use lib.Dec.{ltb}
-use lib.ListN.{length, replicate, length-append, length-replicate}
+use lib.ListN.{length, replicate, length-append}
 use lib.Seq.{sets}
-use Rattle.frame.specs.Frame.{Body, information, Message, codeOf}
+use Rattle.frame.specs.Frame.{information, Message, codeOf}
 use Rattle.frame.specs.declared.Held.{Held}
 use Rattle.frame.specs.declared.Held.the-variants.{Nothing, Is}
-use Rattle.frame.specs.declared.Information.{Information}
-use Rattle.writer.specs.Encode.{headerOctets, informationOctets, heldOctets, bodyOctets, padded, encode}
+use Rattle.writer.specs.Encode.{headerOctets, informationOctets, heldOctets, bodyOctets, encode}
 use Rattle.writer.specs.Plain.{plainHeader, plainBody, plain}
 use Rattle.writer.specs.Writing.{writes, written, Writing, partsFrom}
 use Rattle.writer.specs.declared.Written.{Written}
 use Rattle.writer.specs.declared.Written.the-variants.{Refused, Wrote}
-use Rattle.writer.proofs.Stores.{length-oct, sets-append}
-
-pub length-header : (source flags code : ℕ) → length (headerOctets source flags code) ≡ 18
-unfolding headerOctets
-length-header source flags code = refl
-
-pub length-information : (t : ℕ) (i : Information) → length (informationOctets t i) ≡ 16
-unfolding informationOctets
-length-information t i = refl
-
--- where the body ends
-abbrev pub endOf : Body → ℕ
-endOf b = 18 + length (bodyOctets b)
-
-pub length-encode : (m : Message) → length (encode m) ≡ max 60 (endOf (m .body))
-unfolding encode
-length-encode m =
-    let h = headerOctets (m .source) (m .flags) (codeOf (m .body)) in
-    let b = bodyOctets (m .body) in
-    omega (
-      arith,
-      length-append (h ++ b) (replicate (60 - length (h ++ b)) 0),
-      length-replicate {A = ℕ} (60 - length (h ++ b)) 0,
-      length-append h b,
-      length-header (m .source) (m .flags) (codeOf (m .body)),
-    )
+use Rattle.writer.proofs.Lengths.{length-header, endOf, length-encode}
+use Rattle.writer.proofs.Stores.{sets-append}
 
 -- the header, the body and the zeros are the frame
 pub stored : (m : Message) (d : List ℕ)

@@ -9,7 +9,8 @@ use Rattle.frame.specs.Octets.{total}
 use Rattle.frame.specs.Tlvs.{row, eventLength}
 use Rattle.frame.proofs.Rows.{row-of}
 use Rattle.writer.specs.Octets.{oct, octs}
-use Rattle.writer.proofs.Sevens.{Seven, seven-is, widths-row, length-row, event-stored}
+use Rattle.writer.proofs.Lengths.{length-row}
+use Rattle.writer.proofs.Sevens.{Seven, seven-is, widths-row, event-stored}
 use borrow.Author.Needs.{needs}
 use Rattle.writer.proofs.events.put_event.Statement.{statement}
 use Rattle.writer.proofs.events.put_event.Tie as tie

@@ -1,6 +1,6 @@
 use mathlib.Core.Path.{_≡_, refl}
 use native.Mathlib.Omega.{arith}
-use Rattle.writer.proofs.Writers.{length-information}
+use Rattle.writer.proofs.Lengths.{length-information}
 use borrow.Author.Needs.{needs}
 use Rattle.writer.proofs.local_remote.after_held.Statement.{statement}
 use Rattle.writer.proofs.local_remote.after_held.Tie as tie

@@ -1,4 +1,4 @@
-use Rattle.writer.proofs.Writers.{length-information}
+use Rattle.writer.proofs.Lengths.{length-information}
 use native.Mathlib.Omega.{arith}
 use borrow.Author.Needs.{needs}
 use Rattle.writer.proofs.local_remote.put_held.Statement.{statement}

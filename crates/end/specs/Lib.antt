@@ -1,0 +1,9 @@
+pub mod Bits
+pub mod Roles
+pub mod Ranges
+pub mod Peers
+pub mod Standing
+pub mod Moves
+pub mod Sending
+pub mod Limit
+pub mod Owing

@@ -1,0 +1,47 @@
+-- What a peer record says, and HOUSE, satisfied.
+use Prim.Native.Nat.{ℕ, _%_}
+use mathlib.Core.Bool.{Bool, true, false, _&&_, _||_}
+use lib.Bits.{bitAnd}
+use lib.Dec.{leb, eqb}
+use Rattle.frame.specs.declared.Information.{Information}
+use Rattle.frame.specs.declared.Held.{Held}
+use Rattle.frame.specs.declared.Held.the-variants.{Nothing, Is}
+use Rattle.end.specs.declared.Settings.{Settings}
+use Rattle.end.specs.Bits.{bit}
+
+-- "OAMPDU configuration 2 (low 11 bits: maximum size, FCS counted)"
+abbrev pub maximumOf : Information → ℕ
+maximumOf i = i .oampdu % 2048
+
+-- every bit of `required` is set in the configuration
+unfoldable pub hasAll : ℕ → ℕ → Bool
+hasAll required configuration = eqb (bitAnd required configuration) required
+
+-- "HOUSE, satisfied: peer version 1, peer size at least 64, not both ends passive, peer has every required capability."
+unfoldable pub satisfies : Settings → Information → Bool
+satisfies s i =
+    eqb (i .version) 1
+    && (leb 64 (maximumOf i)
+    && ((bit 0 (s .configuration) || bit 0 (i .configuration))
+    && hasAll (s .required) (i .configuration)))
+
+-- by a record that may be missing
+unfoldable pub satisfied : Settings → Held → Bool
+satisfied s Nothing = false
+satisfied s (Is i) = satisfies s i
+
+abbrev pub held : Held → Bool
+held Nothing = false
+held (Is i) = true
+
+unfoldable pub peerActive : Held → Bool
+peerActive Nothing = false
+peerActive (Is i) = bit 0 (i .configuration)
+
+unfoldable pub peerLoopback : Held → Bool
+peerLoopback Nothing = false
+peerLoopback (Is i) = bit 2 (i .configuration)
+
+unfoldable pub peerMaximum : Held → ℕ
+peerMaximum Nothing = 0
+peerMaximum (Is i) = maximumOf i

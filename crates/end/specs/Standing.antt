@@ -1,0 +1,32 @@
+-- Where discovery stands once no move applies (`Moves` lists the moves, and proofs/Resting.antt shows that they come to rest here).
+use mathlib.Core.Bool.{Bool, true, false}
+use Rattle.frame.specs.Octets.{pick}
+use Rattle.end.specs.declared.Discovery.{Discovery}
+use Rattle.end.specs.declared.Discovery.the-variants.{Fault, ActiveSendLocal, PassiveWait, SendLocalRemote, SendLocalRemoteOk, SendAny}
+use Rattle.end.specs.declared.Role.{Role}
+use Rattle.end.specs.declared.Role.the-variants.{Idle}
+
+-- by whether the link is up, the end active, a peer record held, the end satisfied, and the kept field 2
+abbrev pub standsAt : (up active held satisfied complete : Bool) → Discovery
+standsAt up active held satisfied complete =
+    pick up
+    (pick held (pick satisfied (pick complete SendAny SendLocalRemoteOk) SendLocalRemote)
+    (pick active ActiveSendLocal PassiveWait))
+    Fault
+
+abbrev pub isAny : Discovery → Bool
+isAny Fault = false
+isAny ActiveSendLocal = false
+isAny PassiveWait = false
+isAny SendLocalRemote = false
+isAny SendLocalRemoteOk = false
+isAny SendAny = true
+
+-- "Leaving SEND_ANY makes the role Idle (HOUSE)."
+abbrev pub roleIn : Discovery → Role → Role
+roleIn Fault role = Idle
+roleIn ActiveSendLocal role = Idle
+roleIn PassiveWait role = Idle
+roleIn SendLocalRemote role = Idle
+roleIn SendLocalRemoteOk role = Idle
+roleIn SendAny role = role

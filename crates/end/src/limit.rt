@@ -1,0 +1,53 @@
+// The limit on frames: ten in a timer second, which every tenth tick from fresh closes. Nothing else looks inside a meter.
+ghost use mathlib.Core.Path.{_≡_};
+ghost use Rattle.end.specs.Limit.{newMeter, room, chargedMeter, closing, turnedMeter};
+use crate::Meter;
+
+pub fn new_meter() -> Meter
+    ensures { λ r. ⌜ r ≡ newMeter ⌝ }
+{
+    Meter {
+        ticks: 0,
+        written: 0,
+    }
+}
+
+// Whether one frame more may be written.
+pub fn has_room(meter: Meter) -> bool
+    ensures { λ r. ⌜ r ≡ room meter ⌝ }
+{
+    meter.written < 10
+}
+
+// One frame more is written.
+pub fn charged(meter: Meter) -> Meter
+    ensures { λ r. ⌜ r ≡ chargedMeter meter ⌝ }
+{
+    if meter.written < 255 {
+        return Meter {
+            written: meter.written + 1,
+            ..meter
+        };
+    }
+    meter
+}
+
+// Whether the next tick closes a timer second.
+pub fn closes(meter: Meter) -> bool
+    ensures { λ r. ⌜ r ≡ closing meter ⌝ }
+{
+    9 <= meter.ticks
+}
+
+// The meter after a tick.
+pub fn turned(meter: Meter) -> Meter
+    ensures { λ r. ⌜ r ≡ turnedMeter meter ⌝ }
+{
+    if 9 <= meter.ticks {
+        return new_meter();
+    }
+    Meter {
+        ticks: meter.ticks + 1,
+        ..meter
+    }
+}

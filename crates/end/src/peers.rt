@@ -1,0 +1,98 @@
+// What a peer record says, and whether an end is satisfied by it.
+ghost use mathlib.Core.Path.{_≡_};
+ghost use mathlib.Core.Bool.{_&&_, _||_};
+ghost use Rattle.end.specs.Peers.{maximumOf, hasAll, satisfies, satisfied, held, peerActive, peerLoopback, peerMaximum};
+use crate::Settings;
+use crate::bits::is_active;
+use crate::bits::is_loopback;
+use frame::Held;
+use frame::Information;
+
+// The maximum size that an Information TLV says.
+pub fn maximum(i: Information) -> u16
+    ensures { λ r. ⌜ r ≡ maximumOf i ⌝ }
+{
+    i.oampdu % 2048
+}
+
+fn has_all(required: u8, configuration: u8) -> bool
+    ensures { λ r. ⌜ r ≡ hasAll required configuration ⌝ }
+{
+    required & configuration == required
+}
+
+fn either(a: bool, b: bool) -> bool
+    ensures { λ r. ⌜ r ≡ (a || b) ⌝ }
+{
+    if a { true } else { b }
+}
+
+fn all_four(a: bool, b: bool, c: bool, d: bool) -> bool
+    ensures { λ r. ⌜ r ≡ (a && (b && (c && d))) ⌝ }
+{
+    if a {
+        if b { if c { d } else { false } } else { false }
+    } else {
+        false
+    }
+}
+
+fn is_satisfied_by(settings: Settings, i: Information) -> bool
+    ensures { λ r. ⌜ r ≡ satisfies settings i ⌝ }
+{
+    all_four(
+        i.version == 1,
+        64 <= maximum(i),
+        either(
+            is_active(settings.configuration),
+            is_active(i.configuration),
+        ),
+        has_all(settings.required, i.configuration),
+    )
+}
+
+pub fn is_satisfied(settings: Settings, peer: Held) -> bool
+    ensures { λ r. ⌜ r ≡ satisfied settings peer ⌝ }
+{
+    match peer {
+        Held::Nothing => false,
+        Held::Is(i) => is_satisfied_by(settings, i),
+    }
+}
+
+pub fn is_held(peer: Held) -> bool
+    ensures { λ r. ⌜ r ≡ held peer ⌝ }
+{
+    match peer {
+        Held::Nothing => false,
+        Held::Is(_) => true,
+    }
+}
+
+pub fn is_peer_active(peer: Held) -> bool
+    ensures { λ r. ⌜ r ≡ peerActive peer ⌝ }
+{
+    match peer {
+        Held::Nothing => false,
+        Held::Is(i) => is_active(i.configuration),
+    }
+}
+
+pub fn is_peer_loopback(peer: Held) -> bool
+    ensures { λ r. ⌜ r ≡ peerLoopback peer ⌝ }
+{
+    match peer {
+        Held::Nothing => false,
+        Held::Is(i) => is_loopback(i.configuration),
+    }
+}
+
+// The peer's maximum size, 0 where no record is held.
+pub fn peer_maximum(peer: Held) -> u16
+    ensures { λ r. ⌜ r ≡ peerMaximum peer ⌝ }
+{
+    match peer {
+        Held::Nothing => 0,
+        Held::Is(i) => maximum(i),
+    }
+}

@@ -1,0 +1,26 @@
+-- What tests say that are joined by and, or.
+use Prim.Native.Nat.{ℕ}
+use mathlib.Core.Path.{_≡_, refl, sym}
+use mathlib.Core.Bool.{Bool, true, false, _&&_, _||_, and-eq-true-iff}
+use native.Mathlib.Omega.{arith}
+
+-- no test both fails and holds
+pub never : {A : Type 0} → false ≡ true → A
+never h = let z : _≡_ {A = ℕ} 0 1 = cc in absurd (omega arith)
+
+-- each of two tests that hold together; `search (and-l, and-r)` finds one of several
+pub and-l : (a b : Bool) → a && b ≡ true → a ≡ true
+and-l a b h = and-eq-true-iff a b .0 h .0
+
+pub and-r : (a b : Bool) → a && b ≡ true → b ≡ true
+and-r a b h = and-eq-true-iff a b .0 h .1
+
+-- what follows from each of two tests follows where one of them holds
+pub one-of : {A : Type 0} (a b : Bool) → (a ≡ true → A) → (b ≡ true → A) → a || b ≡ true → A
+one-of true b f g h = f refl
+one-of false b f g h = g h
+
+-- where not one of two tests holds, each fails
+pub neither : (a b : Bool) → a || b ≡ false → (a ≡ false) × (b ≡ false)
+neither true b h = never (sym h)
+neither false b h = (refl, h)

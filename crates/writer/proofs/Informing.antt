@@ -1,0 +1,131 @@
+-- The TLVs of an Information body, written and read.
+use Prim.Native.Nat.{ℕ, _+_, _<_, _≤_}
+use mathlib.Core.Path.{_≡_, refl, sym, ap, _∙_}
+use mathlib.Core.List.{List, [], _∷_, _++_}
+use mathlib.Core.Bool.{Bool, true, false, _||_}
+use native.Mathlib.Omega.{arith}
+use native.Mathlib.Nat.{add-assoc}
+use borrow.Author.Tests.{eqb-true, eqb-false}
+use lib.ListN.{length, getD, drop}
+use lib.Dec.{eqb}
+use Rattle.frame.specs.Octets.{pick}
+use Rattle.frame.specs.Tlvs.{informationLength, markAt}
+use Rattle.frame.specs.Events.{fieldsAt}
+use Rattle.frame.specs.Walk.{Next, has, parts}
+use Rattle.frame.specs.Information.{informationAt, stepOf, informationStep, InformationPart, local, remote, nextOf, informationParts}
+use Rattle.frame.specs.declared.tlvs.Mark.{Mark}
+use Rattle.frame.specs.declared.tlvs.Mark.the-variants.{End, Broken, Unknown, Known}
+use Rattle.frame.specs.declared.tlvs.Kind.the-variants.{Information as InformationKind}
+use Rattle.frame.specs.declared.Information.{Information}
+use Rattle.frame.specs.declared.InformationStep.{InformationStep}
+use Rattle.frame.specs.declared.InformationStep.the-variants.{Local, Remote}
+use Rattle.frame.proofs.Numbers.{Octets}
+use Rattle.frame.proofs.Walks.{by-pick}
+use Rattle.frame.proofs.Marks.{Marked, mark-within, information-16}
+use Rattle.writer.specs.Octets.{octs, fit}
+use Rattle.writer.specs.Encode.{informationWidths, informationValues, informationOctets, partOctets}
+use Rattle.writer.specs.Plain.{every, plainInformation, plainParts}
+use Rattle.writer.proofs.Bools.{never, and-l, and-r, one-of}
+use Rattle.writer.proofs.Lengths.{length-information, length-part}
+use Rattle.writer.proofs.Numbers.{fields-fit}
+use Rattle.writer.proofs.Walking.{these, Each, Shown, Codes}
+use Rattle.writer.proofs.Marking.{tlvOctets, mark-stop, tlv-read, OnKnown, Stands, mark-again}
+
+-- each field of a part within its width
+abbrev pub fitPart : InformationPart → Bool
+fitPart (local i) = fit informationWidths (informationValues i)
+fitPart (remote i) = fit informationWidths (informationValues i)
+
+-- the fields stand in the order of their widths
+fields : (s : List ℕ) (at : ℕ) → fieldsAt informationWidths s (at + 2) ≡ informationValues (informationAt s at)
+unfolding informationAt
+fields s at = simp add-assoc
+
+-- the fields by their values
+abbrev informationOf : List ℕ → Information
+informationOf vs =
+    record {
+      version = getD vs 0 0;
+      revision = getD vs 1 0;
+      state = getD vs 2 0;
+      configuration = getD vs 3 0;
+      oampdu = getD vs 4 0;
+      oui = getD vs 5 0;
+      vendor = getD vs 6 0;
+    }
+
+module _ (s : List ℕ) where
+  abbrev next : ℕ → Next InformationPart
+  next at = nextOf (informationStep s at)
+
+  -- the step where the TLV of a known type was written
+  step-read : (at t : ℕ) (i : Information) (y : List ℕ) → 0 < t → t < 256 → informationLength t ≡ 16 → fit informationWidths (informationValues i) ≡ true
+      → drop at s ≡ informationOctets t i ++ y → informationStep s at ≡ pick (eqb t 1) (Local i (at + 16)) (Remote i (at + 16))
+  unfolding informationStep informationOctets
+  step-read at t i y l u long f e =
+      let e′ : drop at s ≡ tlvOctets InformationKind t informationWidths (informationValues i) ++ y = rw long e in
+      let r = tlv-read InformationKind t informationWidths (informationValues i) s at y l u (omega arith) long refl f e′ in
+      let found : informationAt s at ≡ i = ap informationOf (sym (fields s at) ∙ r .1) in
+      rw (r .0, found, long)
+
+  -- a Local or a Remote that was written is met
+  meets : (at : ℕ) (p : InformationPart) (y : List ℕ) → fitPart p ≡ true → drop at s ≡ partOctets p ++ y → next at ≡ has p (at + length (partOctets p))
+  meets at (local i) y f e = rw length-information (ap nextOf (step-read at 1 i y (omega arith) (omega arith) refl f e))
+  meets at (remote i) y f e = rw length-information (ap nextOf (step-read at 2 i y (omega arith) (omega arith) refl f e))
+
+  -- what is read where a TLV is marked
+  shows : Octets s → (at : ℕ) (mark : Mark) → Marked InformationKind at (length s) mark → OnKnown (Stands InformationKind s at) mark
+      → Each (Shown partOctets fitPart s at) Unit (nextOf (stepOf s at mark))
+  unfolding informationOctets
+  shows o at End m h = tt
+  shows o at Broken m h = tt
+  shows o at (Unknown n) m h = tt
+  shows o at (Known t n) m h =
+      let upto : t ≤ 2 =
+      by-pick (λ (k : ℕ). 0 < k → t ≤ 2) (eqb t 1 || eqb t 2)
+      (λ e _. one-of (eqb t 1) (eqb t 2) (λ u. omega (arith, eqb-true t 1 u)) (λ u. omega (arith, eqb-true t 2 u)) e)
+      (λ _ z. absurd (omega arith))
+      (m .4) in
+      let long : informationLength t ≡ 16 = information-16 t (m .4) in
+      let stands : (u : ℕ) → t ≡ u → drop at s ≡ informationOctets u (informationAt s at) ++ drop n s =
+      λ u e. h informationWidths long ∙ (λ j. octs (1 ∷ 1 ∷ informationWidths) (e j ∷ long j ∷ fields s at j) ++ drop n s) in
+      let fits : fit informationWidths (informationValues (informationAt s at)) ≡ true =
+      ap (fit informationWidths) (sym (fields s at)) ∙ fields-fit s o informationWidths (at + 2) in
+      by-pick (λ (x : InformationStep). Each (Shown partOctets fitPart s at) Unit (nextOf x)) (eqb t 1)
+      (λ e. (stands 1 (eqb-true t 1 e), fits)) (λ e. let e′ = eqb-false t 1 e in (stands 2 (omega arith), fits))
+
+  -- Information TLVs are met where they were written, and stand where they are met
+  pub information-codes : Codes partOctets fitPart Unit s next
+  unfolding informationStep
+  information-codes =
+      record {
+        some = λ p _. omega (arith, length-part p);
+        meets = meets;
+        stops = λ at h. ap (λ (x : Mark). nextOf (stepOf s at x)) (mark-stop InformationKind s at h);
+        shows = λ o at. shows o at (markAt InformationKind s at) (mark-within InformationKind s at) (mark-again InformationKind s at o);
+      }
+
+-- ---- the parts of a body in plain form
+
+-- their fields fit
+fit-information : (i : Information) → plainInformation i ≡ true → fit informationWidths (informationValues i) ≡ true
+unfolding plainInformation
+fit-information i h = search and-r
+
+-- they fit, are at most two, and no second Local or Remote is among them
+pub record Parts (ps : List InformationPart) : Type 0 where
+  pub fits : every fitPart ps ≡ true
+  pub few : length ps ≤ 2
+  pub whole : informationParts false false (these ps) ≡ parts ps
+
+-- what the plain form says of them
+pub plain-parts : (ps : List InformationPart) → plainParts ps ≡ true → Parts ps
+plain-parts [] h = record { fits = refl; few = omega arith; whole = refl }
+plain-parts (remote i ∷ ps) h = never h
+plain-parts (local i ∷ []) h = record { fits = rw (fit-information i h); few = omega arith; whole = refl }
+plain-parts (local i ∷ local j ∷ ps) h = never h
+plain-parts (local i ∷ remote j ∷ []) h =
+    let a : plainInformation i ≡ true = search and-l in
+    let b : plainInformation j ≡ true = search and-r in
+    record { fits = rw (fit-information i a, fit-information j b); few = omega arith; whole = refl }
+plain-parts (local i ∷ remote j ∷ p ∷ ps) h = never h
