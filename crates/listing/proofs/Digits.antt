@@ -1,0 +1,62 @@
+-- A character as a digit.
+-- Assumes nothing.
+use Prim.Native.Nat.{ℕ, _-_, _≤_, _<_}
+use mathlib.Core.Path.{_≡_, refl, sym, _∙_}
+use mathlib.Core.Bool.{Bool, true, false, true≢false}
+use native.Mathlib.Omega.{arith}
+use borrow.Author.Tests.{le-leb, lt-leb}
+use Rattle.text.proofs.Bounds.{by-bound}
+use Rattle.listing.specs.Lines.{isDigit, digitOf}
+use Rattle.listing.specs.Taking.{valueOf}
+
+module _ (c : ℕ) where
+  -- 0 to 9
+  pub numeral : 48 ≤ c → c ≤ 57 → (isDigit c ≡ true) × (digitOf c ≡ c - 48)
+  unfolding isDigit digitOf
+  numeral a b = (simp (le-leb 48 c a, le-leb c 57 b), simp (le-leb c 57 b))
+
+  -- a to f
+  pub letter : 97 ≤ c → c ≤ 102 → (isDigit c ≡ true) × (digitOf c ≡ c - 87)
+  unfolding isDigit digitOf
+  letter a b =
+      let high : 57 < c = omega arith in
+      (simp (le-leb 48 c (omega arith), lt-leb c 57 high, le-leb 97 c a, le-leb c 102 b), simp (lt-leb c 57 high))
+
+  -- neither
+  pub neither : (48 ≤ c → 57 < c) → (97 ≤ c → 102 < c) → isDigit c ≡ false
+  unfolding isDigit
+  neither h k =
+      by-bound c 48
+      (λ a. simp (lt-leb 48 c a, lt-leb 97 c (omega arith)))
+      (λ a.
+      by-bound c 97
+      (λ b. simp (le-leb 48 c a, lt-leb c 57 (h a), lt-leb 97 c b))
+      (λ b. simp (le-leb 48 c a, lt-leb c 57 (h a), le-leb 97 c b, lt-leb c 102 (k b))))
+
+  -- a digit's value is below 16
+  pub small : isDigit c ≡ true → digitOf c ≤ 15
+  small digit =
+      by-bound c 58
+      (λ a. by-bound c 48 (λ b. other (λ h. omega arith) (λ h. omega arith)) (λ b. omega (arith, numeral b (omega arith) .1)))
+      (λ a.
+      by-bound c 97
+      (λ b. other (λ h. omega arith) (λ h. omega arith))
+      (λ b. by-bound c 103 (λ d. omega (arith, letter b (omega arith) .1)) (λ d. other (λ h. omega arith) (λ h. omega arith))))
+    where
+      other : (48 ≤ c → 57 < c) → (97 ≤ c → 102 < c) → digitOf c ≤ 15
+      other h k = absurd (true≢false (sym digit ∙ neither h k))
+
+  -- what the value tells
+  pub digit : valueOf c ≤ 15 → isDigit c ≡ true
+  digit h = go (isDigit c) refl
+    where
+      go : (b : Bool) → isDigit c ≡ b → isDigit c ≡ true
+      go true e = e
+      go false e = absurd (omega (arith, rw e at h))
+
+  pub foreign : 15 < valueOf c → isDigit c ≡ false
+  foreign h = go (isDigit c) refl
+    where
+      go : (b : Bool) → isDigit c ≡ b → isDigit c ≡ false
+      go true e = absurd (omega (arith, rw e at h, small e))
+      go false e = e

@@ -1,0 +1,40 @@
+-- `listing::line::value_of` meets its contract.
+-- Assumes nothing.
+use native.Mathlib.Omega.{arith}
+use Rattle.listing.proofs.Digits.{numeral, letter, neither}
+use borrow.Author.Needs.{needs}
+use Rattle.listing.proofs.line.value_of.Statement.{statement}
+use Rattle.listing.proofs.line.value_of.Tie as tie
+
+wrapping-sub-u8-requires : tie.Need-wrapping-sub-u8-requires
+wrapping-sub-u8-requires c κs = search needs
+
+wrapping-sub-u8-requires-2 : tie.Need-wrapping-sub-u8-requires-2
+wrapping-sub-u8-requires-2 c κs = search needs
+
+returns : tie.Need-returns
+returns c =
+    let digit = numeral (c .before .before .before .args .c) (omega arith) (omega arith) in
+    rw (digit .0, digit .1) (omega arith)
+
+add-result : tie.Need-add-result
+add-result c = search needs
+
+returns-2 : tie.Need-returns-2
+returns-2 c =
+    let digit = letter (c .before .before .before .before .args .c) (omega arith) (omega arith) in
+    rw (digit .0, digit .1) (omega arith)
+
+returns-3 : tie.Need-returns-3
+returns-3 c = rw (neither (c .before .before .before .before .args .c) (λ h. omega arith) (λ h. omega arith))
+
+pub value-of-spec : {M : Type 1} → statement M
+value-of-spec =
+    tie.close
+    (tie.spec
+    wrapping-sub-u8-requires
+    wrapping-sub-u8-requires-2
+    returns
+    add-result
+    returns-2
+    returns-3)

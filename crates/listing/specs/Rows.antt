@@ -1,0 +1,50 @@
+-- Rows of the listing: "fields parted by tabs, being line number, code and flags (all sixteen bits) in decimal (`-` if
+-- refused), answer (0 accepted)".
+use Prim.Native.Nat.{ℕ}
+use mathlib.Core.List.{List, [], _∷_, _++_}
+use Rattle.frame.specs.Frame.{Answer, refused, accepted, codeOf}
+use Rattle.frame.specs.declared.Reading.{Reading}
+use Rattle.frame.specs.declared.Reading.the-variants.{Refused as RefusedReading, Information, Notification, Request, Response, Loopback, Organization}
+use Rattle.text.specs.Decimal.{field}
+use Rattle.listing.specs.declared.row.Entry.{Entry}
+use Rattle.listing.specs.declared.row.Entry.the-variants.{Accepted, Refused}
+
+abbrev pub tab : ℕ
+tab = 9
+
+abbrev pub newline : ℕ
+newline = 10
+
+-- what a row says of a frame
+abbrev pub entryOf : Answer → Entry
+entryOf (refused n) = Refused n
+entryOf (accepted m) = Accepted (codeOf (m .body)) (m .flags)
+
+-- code, flags and answer, with `-` for code and flags of a refused frame
+unfoldable pub columns : Entry → List ℕ
+columns (Accepted code flags) = field code tab ++ field flags tab ++ field 0 newline
+columns (Refused answer) = (45 ∷ tab ∷ 45 ∷ tab ∷ []) ++ field answer newline
+
+-- a row: the line number before them
+unfoldable pub rowOf : ℕ → Entry → List ℕ
+rowOf number entry = field number tab ++ columns entry
+
+-- the octets that a row of any number and entry has at most
+abbrev pub rowRoom : ℕ
+rowRoom = 33
+
+-- "no", "code", "flags" and "answer", parted by tabs
+abbrev pub header : List ℕ
+header =
+    110 ∷ 111 ∷ tab ∷ 99 ∷ 111 ∷ 100 ∷ 101 ∷ tab ∷ 102 ∷ 108 ∷ 97 ∷ 103 ∷ 115 ∷ tab
+    ∷ 97 ∷ 110 ∷ 115 ∷ 119 ∷ 101 ∷ 114 ∷ newline ∷ []
+
+-- how the code comes to an entry: from what the reader shows
+abbrev pub entryShown : Reading → Entry
+entryShown (RefusedReading n) = Refused n
+entryShown (Information h x) = Accepted (h .code) (h .flags)
+entryShown (Notification h x) = Accepted (h .code) (h .flags)
+entryShown (Request h) = Accepted (h .code) (h .flags)
+entryShown (Response h) = Accepted (h .code) (h .flags)
+entryShown (Loopback h x) = Accepted (h .code) (h .flags)
+entryShown (Organization h x) = Accepted (h .code) (h .flags)

@@ -1,0 +1,160 @@
+// A line of hexadecimal text as far as it has come, its octets in a working frame that is lent.
+ghost use mathlib.Core.Path.{_≡_};
+ghost use Prim.Native.Nat.{_+_, _*_, _%_, _≤_};
+ghost use lib.ListN.{length, set};
+ghost use Rattle.listing.specs.Taking.{valueOf, fresh, counted, lineWith, frameWith, hasBegun, decodedOf};
+ghost use Rattle.listing.specs.Feeding.{Scans, Stops};
+
+// The line so far: its whole octets, or these and the first digit of the next; or it has met a foreign character.
+// One octet more than the working frame holds stands for any number above.
+pub enum Line {
+    Whole(usize),
+    Half(usize, u8),
+    Foreign,
+}
+
+// What a line comes to: so many octets, or no hexadecimal.
+pub enum Decoded {
+    Length(usize),
+    NotHexadecimal,
+}
+
+// A line, and the place in a piece up to which it was taken.
+pub struct Scanned {
+    pub line: Line,
+    pub at: usize,
+}
+
+// The value of a digit 0-9a-f, and 16 for any other character. Each turn of a scan asks twice, so it is made of
+// differences that need no jump.
+fn value_of(c: u8) -> u8
+    ensures { λ r. ⌜ r ≡ valueOf c ⌝ }
+{
+    let from_zero = std::num::wrapping_sub_u8(c, b'0');
+    let from_a = std::num::wrapping_sub_u8(c, b'a');
+    if from_zero < 10 {
+        return from_zero;
+    }
+    if from_a < 6 {
+        return from_a + 10;
+    }
+    16
+}
+
+// The octet of two digits, stored where the frame has room, and the line after it.
+fn with_octet(octets: usize, high: u8, low: u8, frame: &mut [u8]) -> Line
+    requires { ⌜ low ≤ 15 ⌝ }
+    ensures { λ r. ⌜ (r ≡ Line.Whole (counted (length (now (frame .entry))) octets)) × (now (frame .exit) ≡ set (now (frame .entry)) octets (high % 16 * 16 + low)) ⌝ }
+{
+    if frame.len() < octets {
+        return Line::Whole(octets);
+    }
+    if octets < frame.len() {
+        frame[octets] = (high % 16) * 16 + low;
+    }
+    Line::Whole(octets + 1)
+}
+
+impl Line {
+    pub fn fresh() -> Line
+        ensures { λ r. ⌜ r ≡ fresh ⌝ }
+    {
+        Line::Whole(0)
+    }
+
+    pub fn has_begun(self) -> bool
+        ensures { λ r. ⌜ r ≡ hasBegun self ⌝ }
+    {
+        match self {
+            Line::Whole(octets) => 0 < octets,
+            Line::Half(_, _) => true,
+            Line::Foreign => true,
+        }
+    }
+
+    pub fn decoded(self) -> Decoded
+        ensures { λ r. ⌜ r ≡ decodedOf self ⌝ }
+    {
+        match self {
+            Line::Whole(octets) => Decoded::Length(octets),
+            Line::Half(_, _) => Decoded::NotHexadecimal,
+            Line::Foreign => Decoded::NotHexadecimal,
+        }
+    }
+
+    // One character more.
+    fn with(self, frame: &mut [u8], c: u8) -> Line
+        ensures { λ r. ⌜ (r ≡ lineWith (length (now (frame .entry))) self c) × (now (frame .exit) ≡ frameWith (now (frame .entry)) self c) ⌝ }
+    {
+        let value = value_of(c);
+        if 15 < value {
+            return Line::Foreign;
+        }
+        match self {
+            Line::Whole(octets) => Line::Half(octets, value),
+            Line::Half(octets, high) => with_octet(octets, high, value, frame),
+            Line::Foreign => Line::Foreign,
+        }
+    }
+}
+
+// The octets that a piece has from `at` as two digits each, as far as the frame has room for them.
+fn take_octets(octets: usize, frame: &mut [u8], piece: &[u8], at: usize) -> Scanned
+    requires { ⌜ at ≤ length (now piece) ⌝ }
+    ensures { λ r. ⌜ Scans (now (piece .entry)) (Line.Whole octets) (now (frame .entry)) at r (now (frame .exit)) ⌝ }
+{
+    let mut octets = octets;
+    let mut at = at;
+    while octets < frame.len() {
+        if piece.len() - at < 2 {
+            break;
+        }
+        let high = value_of(piece[at]);
+        let low = value_of(piece[at + 1]);
+        if 15 < high {
+            break;
+        }
+        if 15 < low {
+            break;
+        }
+        frame[octets] = high * 16 + low;
+        octets += 1;
+        at += 2;
+    }
+    Scanned {
+        line: Line::Whole(octets),
+        at,
+    }
+}
+
+// The same for a line that may stand within an octet, or be foreign: then nothing is taken.
+fn take_whole(line: Line, frame: &mut [u8], piece: &[u8], at: usize) -> Scanned
+    requires { ⌜ at ≤ length (now piece) ⌝ }
+    ensures { λ r. ⌜ Scans (now (piece .entry)) line (now (frame .entry)) at r (now (frame .exit)) ⌝ }
+{
+    match line {
+        Line::Whole(octets) => take_octets(octets, frame, piece, at),
+        Line::Half(_, _) => Scanned { line, at },
+        Line::Foreign => Scanned { line, at },
+    }
+}
+
+// The characters that a piece has from `at`, up to a newline or the piece's end.
+pub(crate) fn scan(line: Line, frame: &mut [u8], piece: &[u8], at: usize) -> Scanned
+    requires { ⌜ at ≤ length (now piece) ⌝ }
+    ensures { λ r. ⌜ Scans (now (piece .entry)) line (now (frame .entry)) at r (now (frame .exit)) ⌝ }
+    ensures { λ r. ⌜ Stops (now (piece .entry)) (r .at) ⌝ }
+{
+    let whole = take_whole(line, frame, piece, at);
+    let mut line = whole.line;
+    let mut at = whole.at;
+    while at < piece.len() {
+        let c = piece[at];
+        if c == b'\n' {
+            break;
+        }
+        line = line.with(frame, c);
+        at += 1;
+    }
+    Scanned { line, at }
+}

@@ -1,0 +1,5 @@
+-- The laws of text.
+pub mod Bounds
+pub mod Decimals
+pub mod Puts
+pub mod Stores

@@ -1,0 +1,3 @@
+-- What the promises of text cite.
+pub mod Decimal
+pub mod Put

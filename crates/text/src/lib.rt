@@ -1,0 +1,9 @@
+// Numbers and words as text in a lent output.
+//
+// Every writer here promises the same: where its text fits from octet `at`, it is stored there and the octet after
+// it is the result; where it does not fit, nothing is stored and `at` is the result.
+mod decimal;
+mod words;
+
+pub use decimal::put_decimal;
+pub use words::put_words;
