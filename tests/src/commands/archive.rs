@@ -1,0 +1,42 @@
+//! `writers`, `reading` and `log`: the archive's functions beside the paper's.
+
+use super::arguments::Arguments;
+use super::Outcome;
+use oam_tests::library::{Archive, Library};
+use oam_tests::random::seed_from_clock;
+use oam_tests::trial::{self, Report};
+
+/// Messages of each kind, frames, or lines.
+const TIMES: u64 = 200_000;
+
+pub fn writers(arguments: &Arguments) -> Outcome {
+    run(arguments, "--messages", trial::writers)
+}
+
+pub fn reading(arguments: &Arguments) -> Outcome {
+    run(arguments, "--frames", trial::reading)
+}
+
+pub fn log(arguments: &Arguments) -> Outcome {
+    run(arguments, "--lines", trial::log)
+}
+
+fn run(
+    arguments: &Arguments,
+    option: &str,
+    trial: fn(&dyn Library, u64, usize) -> Report,
+) -> Outcome {
+    let seed = arguments.number("--seed").unwrap_or_else(seed_from_clock);
+    let times = arguments.number(option).unwrap_or(TIMES);
+    println!("seed {seed}"); // first, so that it is known whatever the archive does
+    let report = trial(&Archive, seed, times as usize);
+    for line in &report.counts {
+        println!("{line}");
+    }
+    if report.faults.is_empty() {
+        println!("no difference");
+        return Ok(());
+    }
+    let faults = report.faults.join("\n  ");
+    Err(format!("fails (seed {seed}, {option} {times})\n  {faults}").into())
+}

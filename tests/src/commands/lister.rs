@@ -1,0 +1,275 @@
+//! `lister`: compares a lister's whole output with the paper's listing, byte
+//! for byte, over many frames and bad lines and several ways of feeding it.
+
+use super::arguments::Arguments;
+use super::process::{Program, Ran, TemporaryFile};
+use super::Outcome;
+use oam_tests::compare::{differences, grouped, shortened, Difference};
+use oam_tests::generate::{any_frame, mixed_lines, of_frame, spoilt, Line};
+use oam_tests::paper::{answer, answers, code, lines, listing};
+use oam_tests::random::{seed_from_clock, Random};
+use std::collections::BTreeMap;
+
+const FRAMES: u64 = 200_000;
+/// Frames that are also fed octet by octet.
+const FEW_FRAMES: usize = 300;
+const LONGEST_PIECE: usize = 70_000;
+/// Differing rows that are shown.
+const SHOWN: usize = 5;
+
+pub fn run(arguments: &Arguments) -> Outcome {
+    let program = arguments.program()?;
+    let seed = arguments.number("--seed").unwrap_or_else(seed_from_clock);
+    let frames = arguments.number("--frames").unwrap_or(FRAMES) as usize;
+    println!("seed {seed}");
+    let mut random = Random::new(seed);
+    let many = mixed_lines(&mut random, frames);
+    let few = few_lines(&mut random);
+    check_claims(&many)?;
+    check_claims(&few)?;
+    let (many, few) = (joined(&many), joined(&few));
+    Tally::of(&many).report()?;
+    let trial = Trial { program, seed };
+    trial.many(&many, &mut random)?;
+    trial.octet_by_octet(&few)?;
+    trial.tiny()?;
+    println!("no difference");
+    Ok(())
+}
+
+/// Short lines of all kinds, for the feeding in single octets.
+fn few_lines(random: &mut Random) -> Vec<Line> {
+    let mut lines = Vec::new();
+    for _ in 0..FEW_FRAMES {
+        let made = any_frame(random);
+        if random.one_in(4) {
+            lines.push(spoilt(random, &made.frame));
+        }
+        lines.push(of_frame(made));
+    }
+    lines
+}
+
+/// The generators and the decoder of this package must agree before anything
+/// is said about the program.
+fn check_claims(lines: &[Line]) -> Outcome {
+    match lines.iter().find(|line| !line.holds()) {
+        None => Ok(()),
+        Some(Line { text, claim }) => {
+            let text = shortened(text);
+            Err(format!("this package errs: {text} does not read as {claim:?}").into())
+        }
+    }
+}
+
+fn joined(lines: &[Line]) -> Vec<u8> {
+    let mut input = Vec::new();
+    for line in lines {
+        input.extend_from_slice(&line.text);
+        input.push(b'\n');
+    }
+    input
+}
+
+/// How often each answer was due, and each code accepted.
+struct Tally {
+    lines: usize,
+    answers: BTreeMap<u8, usize>,
+    codes: BTreeMap<u8, usize>,
+}
+
+impl Tally {
+    fn of(input: &[u8]) -> Self {
+        let mut tally = Tally {
+            lines: 0,
+            answers: answer::ALL.map(|answer| (answer, 0)).into(),
+            codes: code::ALL.map(|code| (code, 0)).into(),
+        };
+        for answer in answers(input) {
+            tally.lines += 1;
+            let number = answer.err().unwrap_or(answer::ACCEPTED);
+            *tally.answers.entry(number).or_default() += 1;
+            if let Ok(heading) = answer {
+                *tally.codes.entry(heading.code).or_default() += 1;
+            }
+        }
+        tally
+    }
+
+    /// Shows the counts; an answer or a code that never came is a failure.
+    fn report(&self) -> Outcome {
+        println!("{} lines, of them", grouped(self.lines));
+        for (answer, count) in &self.answers {
+            println!("  {:>9} answered {answer}", grouped(*count));
+        }
+        println!("and of those answered 0");
+        for (code, count) in &self.codes {
+            println!("  {:>9} of code {code:02X}", grouped(*count));
+        }
+        let mut counts = self.answers.values().chain(self.codes.values());
+        if counts.any(|&count| count == 0) {
+            return Err("an answer or an accepted code was never reached".into());
+        }
+        Ok(())
+    }
+}
+
+/// A program under trial, and the seed to repeat it.
+struct Trial {
+    program: Program,
+    seed: u64,
+}
+
+impl Trial {
+    /// The whole input: from a file, by one write, and in pieces of odd sizes;
+    /// the last time without its last newline.
+    fn many(&self, input: &[u8], random: &mut Random) -> Outcome {
+        let file = TemporaryFile::holding("lines", input)?;
+        let ran = self.program.run_on_file(file.path())?;
+        self.judge("from a file", input, &ran)?;
+
+        let ran = self.program.run_on_pipe(input, || usize::MAX)?;
+        self.judge("by one write", input, &ran)?;
+
+        let cut = input.strip_suffix(b"\n").unwrap_or(input);
+        let ran = self
+            .program
+            .run_on_pipe(cut, || random.between(1, LONGEST_PIECE))?;
+        self.judge("in pieces, without the last newline", cut, &ran)
+    }
+
+    fn octet_by_octet(&self, input: &[u8]) -> Outcome {
+        let ran = self.program.run_on_pipe(input, || 1)?;
+        self.judge("octet by octet", input, &ran)
+    }
+
+    fn tiny(&self) -> Outcome {
+        let inputs = tiny_inputs();
+        for input in &inputs {
+            let ran = self.program.run_on_pipe(input.as_bytes(), || usize::MAX)?;
+            self.compare(&format!("{input:?}"), input.as_bytes(), &ran)?;
+        }
+        println!("agrees on {} tiny inputs", inputs.len());
+        Ok(())
+    }
+
+    fn judge(&self, feeding: &str, input: &[u8], ran: &Ran) -> Outcome {
+        self.compare(feeding, input, ran)?;
+        println!("agrees on {} octets fed {feeding}", grouped(input.len()));
+        Ok(())
+    }
+
+    /// Fails with all that is needed to see and to repeat a difference.
+    fn compare(&self, feeding: &str, input: &[u8], ran: &Ran) -> Outcome {
+        let expected = listing(input);
+        let differences: Vec<Difference> = differences(&expected, &ran.output).collect();
+        let mut faults: Vec<String> = differences
+            .iter()
+            .take(SHOWN)
+            .map(|difference| describe(difference, input))
+            .collect();
+        if differences.len() > SHOWN {
+            faults.push(format!("{} rows differ in all", grouped(differences.len())));
+        }
+        if !ran.status.success() {
+            faults.push(format!("the program ended with {}", ran.status));
+        }
+        if let Some(error) = &ran.unfed {
+            faults.push(format!("not all input could be written: {error}"));
+        }
+        if faults.is_empty() {
+            return Ok(());
+        }
+        let faults = faults.join("\n  ");
+        Err(format!(
+            "differs when fed {feeding} (seed {})\n  {faults}",
+            self.seed
+        )
+        .into())
+    }
+}
+
+fn describe(difference: &Difference, input: &[u8]) -> String {
+    let shown = |row: Option<&[u8]>| row.map_or(String::from("(no row)"), shortened);
+    let line = match difference.line {
+        0 => String::from("(the header)"),
+        number => lines(input)
+            .nth(number - 1)
+            .map_or(String::from("(no line)"), shortened),
+    };
+    format!(
+        "line {}: {line}\n    expected {}\n    found    {}",
+        difference.line,
+        shown(difference.expected),
+        shown(difference.found)
+    )
+}
+
+/// The paper's two lines: an enable, and a command that is none.
+fn paper_lines() -> [String; 2] {
+    ["01", "03"].map(|command| {
+        let zeros = "00".repeat(41);
+        format!(
+            "0180c2000002{}{}{command}{zeros}",
+            "020000000001", "880903005004"
+        )
+    })
+}
+
+/// Inputs of a few lines, with and without their last newline.
+fn tiny_inputs() -> Vec<String> {
+    let [enable, other] = paper_lines();
+    let mut inputs = vec![String::new()];
+    for lines in [
+        String::new(),
+        String::from("\n"),
+        String::from("\n\n"),
+        String::from("0"),
+        String::from("00"),
+        String::from("g"),
+        String::from("\r"),
+        String::from("0\n0"),
+        format!("{enable}\n{other}"),
+        enable.clone(),
+        other.clone(),
+        format!("\n{enable}"),
+        format!("{enable}\n"),
+        format!("{enable}0"),
+        format!("{enable}\r"),
+    ] {
+        inputs.push(format!("{lines}\n"));
+        inputs.push(lines);
+    }
+    inputs
+}
+
+#[cfg(test)]
+mod tests {
+    use super::*;
+
+    #[test]
+    fn a_tally_that_misses_an_answer_is_a_failure() {
+        assert!(Tally::of(b"\n").report().is_err());
+    }
+
+    #[test]
+    fn the_tally_counts_each_line_once() {
+        let tally = Tally::of(paper_lines().join("\n").as_bytes());
+        assert_eq!(tally.lines, 2);
+        assert_eq!(tally.answers[&answer::ACCEPTED], 1);
+        assert_eq!(tally.answers[&answer::COMMAND], 1);
+        assert_eq!(tally.codes[&code::LOOPBACK], 1);
+    }
+
+    #[test]
+    fn few_lines_are_as_claimed() {
+        assert!(check_claims(&few_lines(&mut Random::new(5))).is_ok());
+    }
+
+    #[test]
+    fn a_false_claim_is_found() {
+        let mut lines = few_lines(&mut Random::new(5));
+        lines[7].claim = oam_tests::generate::Claim::Refused(13);
+        assert!(check_claims(&lines).is_err());
+    }
+}

@@ -1,0 +1,126 @@
+//! The commands: their names, their forms, and the choice among them.
+
+#[cfg(feature = "archive")]
+mod archive;
+mod arguments;
+mod list;
+mod lister;
+mod process;
+mod speed;
+#[cfg(feature = "archive")]
+mod write_speed;
+
+use arguments::Arguments;
+use std::error::Error;
+
+/// A command's end: what it had to say is printed, or it failed for a reason.
+type Outcome = Result<(), Box<dyn Error>>;
+
+struct Command {
+    name: &'static str,
+    /// What stands behind the name.
+    form: &'static str,
+    purpose: &'static str,
+    /// The options that take a number.
+    options: &'static [&'static str],
+    run: fn(&Arguments) -> Outcome,
+}
+
+const ALL: &[Command] = &[
+    Command {
+        name: "lister",
+        form: "PROGRAM [WORD ...] [--seed N] [--frames N]",
+        purpose: "compare a lister's whole output with the paper's",
+        options: &["--seed", "--frames"],
+        run: lister::run,
+    },
+    Command {
+        name: "list",
+        form: "",
+        purpose: "list standard input with the hand-written lister",
+        options: &[],
+        run: list::run,
+    },
+    Command {
+        name: "speed",
+        form: "PROGRAM [WORD ...] [--seed N] [--megabytes N] [--runs N]",
+        purpose: "compare a lister's speed with the hand-written one's",
+        options: &["--seed", "--megabytes", "--runs"],
+        run: speed::run,
+    },
+    #[cfg(feature = "archive")]
+    Command {
+        name: "writers",
+        form: "[--seed N] [--messages N]",
+        purpose: "compare the archive's frame writers with the paper's",
+        options: &["--seed", "--messages"],
+        run: archive::writers,
+    },
+    #[cfg(feature = "archive")]
+    Command {
+        name: "reading",
+        form: "[--seed N] [--frames N]",
+        purpose: "compare the archive's frame reader with the paper's",
+        options: &["--seed", "--frames"],
+        run: archive::reading,
+    },
+    #[cfg(feature = "archive")]
+    Command {
+        name: "log",
+        form: "[--seed N] [--lines N]",
+        purpose: "compare the archive's log reader and writer with the paper's",
+        options: &["--seed", "--lines"],
+        run: archive::log,
+    },
+    #[cfg(feature = "archive")]
+    Command {
+        name: "write-speed",
+        form: "[--runs N]",
+        purpose: "compare the archive's speed with that of hand-written functions",
+        options: &["--runs"],
+        run: write_speed::run,
+    },
+];
+
+/// What a build without the archive says of the commands it lacks.
+const WITHOUT_ARCHIVE: &str = "
+writers, reading, log and write-speed need the feature archive";
+
+/// Runs the command that the arguments name.
+pub fn run(mut given: impl Iterator<Item = String>) -> Outcome {
+    let name = given.next().ok_or_else(usage)?;
+    let command = ALL
+        .iter()
+        .find(|command| command.name == name)
+        .ok_or_else(usage)?;
+    let arguments = Arguments::parse(given, command.options)
+        .map_err(|fault| format!("{name}: {fault}\n{}", usage()))?;
+    (command.run)(&arguments).map_err(|failure| format!("{name}: {failure}").into())
+}
+
+fn usage() -> String {
+    let mut text = String::from("usage:");
+    for command in ALL {
+        text += &format!(
+            "\n  oam-tests {} {}\n      {}",
+            command.name, command.form, command.purpose
+        );
+    }
+    if cfg!(not(feature = "archive")) {
+        text += WITHOUT_ARCHIVE;
+    }
+    text
+}
+
+#[cfg(test)]
+mod tests {
+    use super::*;
+
+    #[test]
+    fn no_command_or_an_unknown_one_shows_the_usage() {
+        for words in [vec![], vec!["lsit"], vec!["lister", "--sed", "1"]] {
+            let failure = run(words.into_iter().map(String::from)).expect_err("not a command");
+            assert!(failure.to_string().contains("oam-tests lister PROGRAM"));
+        }
+    }
+}

@@ -1,0 +1,178 @@
+//! Running a lister as a process: fed from a file, or through a pipe in pieces.
+
+use std::error::Error;
+use std::fs::{self, File};
+use std::io::{self, Read, Write};
+use std::path::{Path, PathBuf};
+use std::process::{Child, Command, ExitStatus, Stdio};
+use std::thread;
+use std::time::{Duration, Instant};
+
+/// A program and the words it is called with.
+pub struct Program {
+    path: PathBuf,
+    words: Vec<String>,
+}
+
+/// What a program wrote, and how it ended.
+pub struct Ran {
+    pub output: Vec<u8>,
+    pub status: ExitStatus,
+    /// Why not all of its input could be written to it.
+    pub unfed: Option<io::Error>,
+}
+
+impl Program {
+    pub fn new(path: impl Into<PathBuf>, words: &[String]) -> Self {
+        Program {
+            path: path.into(),
+            words: words.to_vec(),
+        }
+    }
+
+    /// Runs the program with its standard input from a file.
+    pub fn run_on_file(&self, input: &Path) -> Result<Ran, Box<dyn Error>> {
+        let mut child = self.spawn(File::open(input)?.into(), Stdio::piped())?;
+        let output = read_output(&mut child)?;
+        Ok(Ran {
+            output,
+            status: child.wait()?,
+            unfed: None,
+        })
+    }
+
+    /// Runs the program and writes `input` to it through a pipe, in pieces of
+    /// the lengths that `piece` gives. The writing has a thread of its own:
+    /// both pipes may be full at once.
+    pub fn run_on_pipe(
+        &self,
+        input: &[u8],
+        piece: impl FnMut() -> usize + Send,
+    ) -> Result<Ran, Box<dyn Error>> {
+        let mut child = self.spawn(Stdio::piped(), Stdio::piped())?;
+        let pipe = child.stdin.take().expect("standard input is a pipe");
+        let (output, fed) = thread::scope(|scope| {
+            let feeding = scope.spawn(|| feed(pipe, input, piece));
+            let output = read_output(&mut child);
+            (output, feeding.join().expect("feeding does not panic"))
+        });
+        Ok(Ran {
+            output: output?,
+            status: child.wait()?,
+            unfed: fed.err(),
+        })
+    }
+
+    /// The time of a run on a file, the output thrown away.
+    pub fn time(&self, input: &Path) -> Result<Duration, Box<dyn Error>> {
+        let input = File::open(input)?;
+        let start = Instant::now();
+        let status = self.spawn(input.into(), Stdio::null())?.wait()?;
+        let taken = start.elapsed();
+        if !status.success() {
+            return Err(format!("{} ended with {status}", self.path.display()).into());
+        }
+        Ok(taken)
+    }
+
+    fn spawn(&self, input: Stdio, output: Stdio) -> Result<Child, Box<dyn Error>> {
+        Command::new(&self.path)
+            .args(&self.words)
+            .stdin(input)
+            .stdout(output)
+            .spawn()
+            .map_err(|error| format!("{}: {error}", self.path.display()).into())
+    }
+}
+
+fn read_output(child: &mut Child) -> io::Result<Vec<u8>> {
+    let mut output = Vec::new();
+    let pipe = child.stdout.as_mut().expect("standard output is a pipe");
+    pipe.read_to_end(&mut output)?;
+    Ok(output)
+}
+
+/// Writes the pieces one by one and closes the pipe.
+fn feed(mut pipe: impl Write, input: &[u8], mut piece: impl FnMut() -> usize) -> io::Result<()> {
+    let mut rest = input;
+    while !rest.is_empty() {
+        let (now, later) = rest.split_at(piece().min(rest.len()));
+        pipe.write_all(now)?;
+        rest = later;
+        thread::yield_now(); // lets the reader see this piece by itself
+    }
+    Ok(())
+}
+
+/// A file in the system's directory for such, removed when it is dropped.
+pub struct TemporaryFile {
+    path: PathBuf,
+}
+
+impl TemporaryFile {
+    pub fn holding(name: &str, octets: &[u8]) -> io::Result<Self> {
+        let name = format!("oam-tests-{}-{name}", std::process::id());
+        let file = TemporaryFile {
+            path: std::env::temp_dir().join(name),
+        };
+        fs::write(&file.path, octets)?;
+        Ok(file)
+    }
+
+    pub fn path(&self) -> &Path {
+        &self.path
+    }
+}
+
+impl Drop for TemporaryFile {
+    fn drop(&mut self) {
+        // Nothing hangs on it: the file is only in the way.
+        let _ = fs::remove_file(&self.path);
+    }
+}
+
+#[cfg(test)]
+mod tests {
+    use super::*;
+
+    /// Keeps each write by itself.
+    struct Writes(Vec<Vec<u8>>);
+
+    impl Write for &mut Writes {
+        fn write(&mut self, octets: &[u8]) -> io::Result<usize> {
+            self.0.push(octets.to_vec());
+            Ok(octets.len())
+        }
+
+        fn flush(&mut self) -> io::Result<()> {
+            Ok(())
+        }
+    }
+
+    #[test]
+    fn all_octets_are_fed_in_the_pieces_asked_for() {
+        let mut writes = Writes(Vec::new());
+        let mut sizes = [3, 1, 100].into_iter();
+        feed(&mut writes, b"abcdefg", || {
+            sizes.next().expect("three pieces")
+        })
+        .expect("fed");
+        assert_eq!(writes.0, [&b"abc"[..], b"d", b"efg"]);
+    }
+
+    #[test]
+    fn a_temporary_file_holds_its_octets_and_goes() {
+        let file = TemporaryFile::holding("unit", b"octets").expect("written");
+        let path = file.path().to_path_buf();
+        assert_eq!(fs::read(&path).expect("there"), b"octets");
+        drop(file);
+        assert!(!path.exists());
+    }
+
+    #[test]
+    fn a_program_that_is_not_there_is_named() {
+        let program = Program::new("no-such-program", &[]);
+        let failure = program.run_on_pipe(b"", || 1).err().expect("not there");
+        assert!(failure.to_string().contains("no-such-program"));
+    }
+}

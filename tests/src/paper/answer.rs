@@ -1,0 +1,41 @@
+//! The answer numbers that a reading, a writing or a line of text can be given
+//! (the paper's section "Answer numbers"; 11 to 13 and 15 are the machine's).
+
+/// The listing's number for an accepted frame.
+pub const ACCEPTED: u8 = 0;
+/// The frame is not 60 to 1,514 octets.
+pub const LENGTH: u8 = 1;
+/// The destination is not 01-80-C2-00-00-02.
+pub const DESTINATION: u8 = 2;
+/// Length/Type is not 88-09.
+pub const TYPE: u8 = 3;
+/// The subtype is not 3.
+pub const SUBTYPE: u8 = 4;
+/// The code is 05 to FD, or FF.
+pub const CODE: u8 = 5;
+/// A TLV, descriptor or container is broken.
+pub const BROKEN: u8 = 6;
+/// A second Local, or second Remote, Information TLV.
+pub const SECOND: u8 = 7;
+/// The loopback command is not 1 or 2.
+pub const COMMAND: u8 = 8;
+/// The lent output is shorter than the frame or log line to be written.
+pub const OUTPUT: u8 = 9;
+/// A value is out of range, or what is to be written has no plain form.
+pub const VALUES: u8 = 10;
+/// The text line is not in its stated form.
+pub const TEXT: u8 = 14;
+
+/// Every answer that a line of the listing can show.
+pub const ALL: [u8; 10] = [
+    ACCEPTED,
+    LENGTH,
+    DESTINATION,
+    TYPE,
+    SUBTYPE,
+    CODE,
+    BROKEN,
+    SECOND,
+    COMMAND,
+    TEXT,
+];

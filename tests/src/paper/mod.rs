@@ -1,0 +1,29 @@
+//! The paper's frames: their readings, their answers, their plain form, and the
+//! two texts, listing and log.
+
+pub mod answer;
+mod draft;
+pub mod log;
+mod message;
+mod numbers;
+mod part;
+mod plain;
+mod read;
+mod text;
+pub mod walk;
+mod write;
+
+#[cfg(test)]
+mod tests;
+
+pub use draft::{Draft, DraftBody, WRITTEN};
+pub use message::{code, Body, Container, Content, Descriptor, Event, Information, Message, Part};
+pub use numbers::{joined, parted, NUMBERS};
+pub use part::{list_start, part_at, Listed, Standing};
+pub use plain::is_plain;
+pub use read::{
+    check, read, Heading, BODY, DESTINATION, LONGEST, SHORTEST, SLOW_PROTOCOLS, SUBTYPE,
+};
+pub use text::{answers, decode, lines, listing, HEADER};
+pub use walk::{EVENTS, INFORMATION_LENGTH};
+pub use write::{write, PLAIN_DATA, PLAIN_DESCRIPTORS, PLAIN_EVENTS};

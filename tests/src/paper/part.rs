@@ -1,0 +1,77 @@
+//! One part of a list by its place in the frame, for a caller who walks the
+//! list on his own.
+
+use super::message::{code, Container, Content, Descriptor, Event, Part};
+use super::read::BODY;
+use super::walk;
+
+/// A part that stands at a place, and the octet after it.
+#[derive(Clone, Copy, Debug, PartialEq, Eq)]
+pub struct Standing {
+    pub part: Listed,
+    pub next: usize,
+}
+
+/// A part of any list.
+#[derive(Clone, Copy, Debug, PartialEq, Eq)]
+pub enum Listed {
+    /// A TLV of an unknown type.
+    Skipped,
+    Information(Part),
+    Event(Event),
+    Descriptor(Descriptor),
+    /// A container whose value starts at octet `at` of the frame.
+    Value {
+        descriptor: Descriptor,
+        at: usize,
+        width: usize,
+    },
+    /// A container without value, its width octet as received.
+    Indication {
+        descriptor: Descriptor,
+        width: u8,
+    },
+}
+
+/// Where a code's list begins; Loopback and organization specific have none.
+pub fn list_start(code: u8) -> Option<usize> {
+    match code {
+        code::INFORMATION | code::REQUEST | code::RESPONSE => Some(BODY),
+        code::NOTIFICATION => Some(BODY + 2), // behind the number
+        _ => None,
+    }
+}
+
+/// What stands at octet `at` of a frame of this code, be it a part's first octet
+/// or any other: a part, nothing where a list would end, or answer 6. The
+/// frame's end ends a list, and behind it there is nothing either.
+pub fn part_at(code: u8, frame: &[u8], at: usize) -> Result<Option<Standing>, u8> {
+    let mut rest = frame.get(at..).unwrap_or_default();
+    let part = match code {
+        code::INFORMATION => walk::next_information(&mut rest)?
+            .map(|tlv| tlv.map_or(Listed::Skipped, Listed::Information)),
+        code::NOTIFICATION => {
+            walk::next_event(&mut rest)?.map(|tlv| tlv.map_or(Listed::Skipped, Listed::Event))
+        }
+        code::REQUEST => walk::next_descriptor(&mut rest)?.map(Listed::Descriptor),
+        code::RESPONSE => {
+            walk::next_container(&mut rest)?.map(|container| place(container, frame, rest))
+        }
+        _ => None,
+    };
+    let next = frame.len() - rest.len();
+    Ok(part.map(|part| Standing { part, next }))
+}
+
+/// The container whose last octet stands before `rest`, the frame's end.
+fn place(container: Container, frame: &[u8], rest: &[u8]) -> Listed {
+    let descriptor = container.descriptor;
+    match container.content {
+        Content::Value(value) => Listed::Value {
+            descriptor,
+            at: frame.len() - rest.len() - value.len(),
+            width: value.len(),
+        },
+        Content::Indication(width) => Listed::Indication { descriptor, width },
+    }
+}

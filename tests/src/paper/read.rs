@@ -1,0 +1,114 @@
+//! Reading a frame: answers 1 to 5 in order, then the body in octet order.
+
+use super::answer;
+use super::message::{code, Body, Message};
+use super::walk;
+use std::borrow::Cow;
+
+/// Octets in the shortest and in the longest frame, without FCS.
+pub const SHORTEST: usize = 60;
+pub const LONGEST: usize = 1514;
+
+pub const DESTINATION: [u8; 6] = [0x01, 0x80, 0xC2, 0x00, 0x00, 0x02];
+/// Length/Type of the slow protocols.
+pub const SLOW_PROTOCOLS: [u8; 2] = [0x88, 0x09];
+/// Subtype of OAM among the slow protocols.
+pub const SUBTYPE: u8 = 3;
+
+/// Where the body starts.
+pub const BODY: usize = 18;
+
+/// What a row of the listing shows of an accepted frame.
+#[derive(Clone, Copy, Debug, PartialEq, Eq)]
+pub struct Heading {
+    pub code: u8,
+    pub flags: u16,
+}
+
+/// Reads a frame: what it says, or its answer.
+pub fn read(frame: &[u8]) -> Result<Message<'_>, u8> {
+    let heading = read_heading(frame)?;
+    Ok(Message {
+        source: [frame[6], frame[7], frame[8], frame[9], frame[10], frame[11]],
+        flags: heading.flags,
+        body: read_body(heading.code, &frame[BODY..])?,
+    })
+}
+
+/// Answers like `read` but keeps nothing of the body; it is for speed.
+pub fn check(frame: &[u8]) -> Result<Heading, u8> {
+    let heading = read_heading(frame)?;
+    let body = &frame[BODY..];
+    match heading.code {
+        code::INFORMATION => walk::information(body, |_| ())?,
+        code::NOTIFICATION => walk::events(&body[2..], |_| ())?,
+        code::REQUEST => walk::descriptors(body, |_| ())?,
+        code::RESPONSE => walk::containers(body, |_| ())?,
+        code::LOOPBACK => read_command(body).map(|_| ())?,
+        _ => {} // an organization's data are always well formed
+    }
+    Ok(heading)
+}
+
+/// Answers 1 to 5.
+fn read_heading(frame: &[u8]) -> Result<Heading, u8> {
+    if !(SHORTEST..=LONGEST).contains(&frame.len()) {
+        return Err(answer::LENGTH);
+    }
+    if frame[0..6] != DESTINATION {
+        return Err(answer::DESTINATION);
+    }
+    if frame[12..14] != SLOW_PROTOCOLS {
+        return Err(answer::TYPE);
+    }
+    if frame[14] != SUBTYPE {
+        return Err(answer::SUBTYPE);
+    }
+    let flags = u16::from_be_bytes([frame[15], frame[16]]);
+    match frame[17] {
+        0x05..=0xFD | 0xFF => Err(answer::CODE),
+        code => Ok(Heading { code, flags }),
+    }
+}
+
+/// Answers 6 to 8. The body is at least 42 octets and its code a known one.
+fn read_body(code: u8, body: &[u8]) -> Result<Body<'_>, u8> {
+    Ok(match code {
+        code::INFORMATION => {
+            let mut parts = Vec::new();
+            walk::information(body, |part| parts.push(part))?;
+            Body::Information(parts)
+        }
+        code::NOTIFICATION => {
+            let number = u16::from_be_bytes([body[0], body[1]]);
+            let mut events = Vec::new();
+            walk::events(&body[2..], |event| events.push(event))?;
+            Body::Notification { number, events }
+        }
+        code::REQUEST => {
+            let mut descriptors = Vec::new();
+            walk::descriptors(body, |descriptor| descriptors.push(descriptor))?;
+            Body::Request(descriptors)
+        }
+        code::RESPONSE => {
+            let mut containers = Vec::new();
+            walk::containers(body, |container| containers.push(container))?;
+            Body::Response(containers)
+        }
+        code::LOOPBACK => Body::Loopback {
+            command: read_command(body)?,
+        },
+        _ => Body::Organization {
+            oui: [body[0], body[1], body[2]],
+            data: Cow::Borrowed(&body[3..]),
+        },
+    })
+}
+
+/// Only octet 18 of a Loopback Control frame is looked at.
+fn read_command(body: &[u8]) -> Result<u8, u8> {
+    match body[0] {
+        command @ (1 | 2) => Ok(command),
+        _ => Err(answer::COMMAND),
+    }
+}

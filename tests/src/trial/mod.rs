@@ -1,0 +1,19 @@
+//! Trials: a library's functions beside the paper's, over many calls.
+
+mod contest;
+mod lent;
+mod log;
+mod reading;
+mod report;
+mod writers;
+
+#[cfg(test)]
+mod tests;
+
+pub use log::log;
+pub use reading::reading;
+pub use report::Report;
+pub use writers::writers;
+
+/// The name under which a claim of this package's own makers fails.
+const THIS_PACKAGE: &str = "this package errs";

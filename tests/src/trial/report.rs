@@ -1,0 +1,87 @@
+//! What a trial saw: how often it reached what, and what was wrong.
+
+use super::contest::Contest;
+use crate::compare::grouped;
+use std::collections::BTreeMap;
+
+pub struct Report {
+    /// Lines for people.
+    pub counts: Vec<String>,
+    /// What differs, and what was never reached; nothing is as it should be.
+    pub faults: Vec<String>,
+}
+
+/// How often each thing was reached that must be.
+pub struct Tally<K> {
+    counts: BTreeMap<K, usize>,
+}
+
+impl<K: Ord> Tally<K> {
+    pub fn expecting(keys: impl IntoIterator<Item = K>) -> Self {
+        let counts = keys.into_iter().map(|key| (key, 0)).collect();
+        Tally { counts }
+    }
+
+    pub fn count(&mut self, key: K) {
+        *self.counts.entry(key).or_default() += 1;
+    }
+}
+
+impl Report {
+    pub fn of(contest: &Contest) -> Self {
+        Report {
+            counts: Vec::new(),
+            faults: contest.faults(),
+        }
+    }
+
+    /// Shows each of a tally's counts.
+    pub fn add<K: Ord>(&mut self, title: &str, tally: &Tally<K>, name: impl Fn(&K) -> String) {
+        self.counts.push(String::from(title));
+        for (key, count) in &tally.counts {
+            let count = grouped(*count);
+            self.counts.push(format!("  {count:>9} {}", name(key)));
+        }
+        self.add_missed(title, tally, name);
+    }
+
+    /// Shows only how many things there are and how often the rarest came.
+    pub fn add_many<K: Ord>(&mut self, title: &str, tally: &Tally<K>, name: impl Fn(&K) -> String) {
+        let things = tally.counts.len();
+        let rarest = tally.counts.values().min().copied().unwrap_or(0);
+        let rarest = grouped(rarest);
+        self.counts
+            .push(format!("{title}: {things}, each {rarest} times or more"));
+        self.add_missed(title, tally, name);
+    }
+
+    fn add_missed<K: Ord>(&mut self, title: &str, tally: &Tally<K>, name: impl Fn(&K) -> String) {
+        for (key, _) in tally.counts.iter().filter(|(_, &count)| count == 0) {
+            self.faults
+                .push(format!("never reached: {title}: {}", name(key)));
+        }
+    }
+}
+
+#[cfg(test)]
+mod tests {
+    use super::*;
+    use crate::library::ByPaper;
+
+    #[test]
+    fn counts_are_shown_and_what_was_missed_is_a_fault() {
+        let mut tally = Tally::expecting([1, 2]);
+        for _ in 0..1234 {
+            tally.count(1);
+        }
+        let mut report = Report::of(&Contest::new(&ByPaper));
+        report.add("answers", &tally, u8::to_string);
+        assert_eq!(report.counts, ["answers", "      1,234 1", "          0 2"]);
+        assert_eq!(report.faults, ["never reached: answers: 2"]);
+        tally.count(2);
+        let mut report = Report::of(&Contest::new(&ByPaper));
+        report.add_many("answers", &tally, u8::to_string);
+        assert_eq!(report.counts, ["answers: 2, each 1 times or more"]);
+        assert!(report.faults.is_empty());
+    }
+}
