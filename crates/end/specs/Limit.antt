@@ -1,8 +1,7 @@
 -- The limit on frames: "ten frames already written in this timer second" is 13.
 use Prim.Native.Nat.{ℕ, _+_}
-use mathlib.Core.Bool.{Bool, true, false}
+use mathlib.Core.Bool.{Bool, true, false, cond}
 use lib.Dec.{ltb, leb}
-use Rattle.frame.specs.Octets.{pick}
 use Rattle.end.specs.declared.Meter.{Meter}
 
 abbrev pub newMeter : Meter
@@ -14,7 +13,7 @@ room m = ltb (m .written) 10
 
 -- one frame more is written (the number is at most 10 wherever room was asked first, and never goes past what its octet holds)
 unfoldable pub chargedMeter : Meter → Meter
-chargedMeter m = record { ticks = m .ticks; written = pick (ltb (m .written) 255) (m .written + 1) (m .written) }
+chargedMeter m = record { ticks = m .ticks; written = cond (ltb (m .written) 255) (m .written + 1) (m .written) }
 
 -- "every tenth tick from fresh (link down or up) closes a timer second"
 unfoldable pub closing : Meter → Bool
@@ -22,4 +21,4 @@ closing m = leb 9 (m .ticks)
 
 -- the meter after a tick: a closed second starts with no frame written
 unfoldable pub turnedMeter : Meter → Meter
-turnedMeter m = pick (closing m) newMeter (record { ticks = m .ticks + 1; written = m .written })
+turnedMeter m = cond (closing m) newMeter (record { ticks = m .ticks + 1; written = m .written })

@@ -1,7 +1,6 @@
 -- Discovery's moves, as the paper lists them.
 use Prim.Native.Nat.{ℕ, zero, suc}
-use mathlib.Core.Bool.{Bool, true, false}
-use Rattle.frame.specs.Octets.{pick}
+use mathlib.Core.Bool.{Bool, true, false, cond}
 use Rattle.end.specs.declared.Discovery.{Discovery}
 use Rattle.end.specs.declared.Discovery.the-variants.{Fault, ActiveSendLocal, PassiveWait, SendLocalRemote, SendLocalRemoteOk, SendAny}
 
@@ -13,16 +12,16 @@ pub data Move : Type 0 where
 module _ (up active held satisfied complete : Bool) where
   unfoldable pub move : Discovery → Move
   -- "With the link up it goes at once to ACTIVE_SEND_LOCAL (active) or PASSIVE_WAIT."
-  move Fault = pick up (pick active (to ActiveSendLocal) (to PassiveWait)) rest
+  move Fault = cond up (cond active (to ActiveSendLocal) (to PassiveWait)) rest
   -- "Either goes to SEND_LOCAL_REMOTE once a Local TLV is held."
-  move ActiveSendLocal = pick held (to SendLocalRemote) rest
-  move PassiveWait = pick held (to SendLocalRemote) rest
+  move ActiveSendLocal = cond held (to SendLocalRemote) rest
+  move PassiveWait = cond held (to SendLocalRemote) rest
   -- "SEND_LOCAL_REMOTE goes to SEND_LOCAL_REMOTE_OK when satisfied; that goes to SEND_ANY when the kept peer field is 2."
-  move SendLocalRemote = pick satisfied (to SendLocalRemoteOk) rest
+  move SendLocalRemote = cond satisfied (to SendLocalRemoteOk) rest
   -- "SEND_LOCAL_REMOTE_OK or SEND_ANY, not satisfied: SEND_LOCAL_REMOTE."
-  move SendLocalRemoteOk = pick satisfied (pick complete (to SendAny) rest) (to SendLocalRemote)
+  move SendLocalRemoteOk = cond satisfied (cond complete (to SendAny) rest) (to SendLocalRemote)
   -- "SEND_ANY, satisfied, kept field not 2: SEND_LOCAL_REMOTE_OK."
-  move SendAny = pick satisfied (pick complete rest (to SendLocalRemoteOk)) (to SendLocalRemote)
+  move SendAny = cond satisfied (cond complete rest (to SendLocalRemoteOk)) (to SendLocalRemote)
 
   -- "Moves run until none applies": at most so many of them
   unfoldable pub moves : ℕ → Discovery → Discovery

@@ -1,6 +1,5 @@
 -- Where discovery stands once no move applies (`Moves` lists the moves, and proofs/Resting.antt shows that they come to rest here).
-use mathlib.Core.Bool.{Bool, true, false}
-use Rattle.frame.specs.Octets.{pick}
+use mathlib.Core.Bool.{Bool, true, false, cond}
 use Rattle.end.specs.declared.Discovery.{Discovery}
 use Rattle.end.specs.declared.Discovery.the-variants.{Fault, ActiveSendLocal, PassiveWait, SendLocalRemote, SendLocalRemoteOk, SendAny}
 use Rattle.end.specs.declared.Role.{Role}
@@ -9,9 +8,9 @@ use Rattle.end.specs.declared.Role.the-variants.{Idle}
 -- by whether the link is up, the end active, a peer record held, the end satisfied, and the kept field 2
 abbrev pub standsAt : (up active held satisfied complete : Bool) → Discovery
 standsAt up active held satisfied complete =
-    pick up
-    (pick held (pick satisfied (pick complete SendAny SendLocalRemoteOk) SendLocalRemote)
-    (pick active ActiveSendLocal PassiveWait))
+    cond up
+    (cond held (cond satisfied (cond complete SendAny SendLocalRemoteOk) SendLocalRemote)
+    (cond active ActiveSendLocal PassiveWait))
     Fault
 
 abbrev pub isAny : Discovery → Bool

@@ -2,12 +2,12 @@
 use Prim.Native.Nat.{ℕ, _≤_}
 use mathlib.Core.Path.{_≡_, refl, sym, _∙_}
 use mathlib.Core.List.{List, [], _∷_}
-use mathlib.Core.Bool.{Bool, true, false, _||_}
+use mathlib.Core.Bool.{Bool, true, false, cond, _||_}
 use native.Mathlib.Omega.{arith}
 use borrow.Author.Tests.{ltb-false, eqb-true, ne-eqb}
 use lib.ListN.{length, getD, drop}
 use lib.Dec.{ltb, eqb}
-use Rattle.frame.specs.Octets.{pick, num}
+use Rattle.frame.specs.Octets.{num}
 use Rattle.frame.specs.Walk.{Walk, ends, breaks, over, part, whole, Parsed, refused as unread, parts, also, listed}
 use Rattle.frame.specs.Information.{InformationPart, informationWalk, informationParts, nothing}
 use Rattle.frame.specs.Reader.{gathered, gatheredOf, headerOf, gatheredReading, listReading, loopbackReading, bodyReading}
@@ -17,7 +17,7 @@ use Rattle.frame.specs.Frame.{refused, Body, information, notification, 
 use Rattle.frame.specs.declared.Header.{Header}
 use Rattle.frame.specs.declared.Reading.{Reading}
 use Rattle.frame.specs.declared.Reading.the-variants.{Refused, Notification, Request, Response, Loopback}
-use Rattle.frame.proofs.Walks.{by-pick}
+use Rattle.frame.proofs.Walks.{by-cond}
 use Rattle.frame.proofs.Places.{whole-events, whole-descriptors, whole-containers}
 
 -- ---- what is shown of a body
@@ -44,12 +44,12 @@ module _ {P : Type 0} (f : List ℕ) (make : List P → Body) (reading : Reading
 
 shown-loopback : (f : List ℕ) (n : ℕ)
     → loopbackReading (headed f 4) n
-    ≡ readingOf (pick (eqb n 1 || eqb n 2) (says f (loopback n)) (refused 8))
+    ≡ readingOf (cond (eqb n 1 || eqb n 2) (says f (loopback n)) (refused 8))
 shown-loopback f n = go (eqb n 1) (eqb n 2)
   where
     go : (a b : Bool)
-        → pick a (Loopback (headed f 4) n) (pick b (Loopback (headed f 4) n) (Refused 8))
-        ≡ readingOf (pick (a || b) (says f (loopback n)) (refused 8))
+        → cond a (Loopback (headed f 4) n) (cond b (Loopback (headed f 4) n) (Refused 8))
+        ≡ readingOf (cond (a || b) (says f (loopback n)) (refused 8))
     go true b = refl
     go false true = refl
     go false false = refl
@@ -63,7 +63,7 @@ neither false b h = refl
 pub header-long : (f : List ℕ) → headerAnswer f ≡ 0 → 60 ≤ length f
 unfolding headerAnswer
 header-long f =
-    by-pick (λ (n : ℕ). n ≡ 0 → 60 ≤ length f) (ltb (length f) 60 || ltb 1514 (length f)) (λ _ e. absurd (omega arith))
+    by-cond (λ (n : ℕ). n ≡ 0 → 60 ≤ length f) (ltb (length f) 60 || ltb 1514 (length f)) (λ _ e. absurd (omega arith))
     (λ h _. omega (arith, ltb-false (length f) 60 (neither (ltb (length f) 60) (ltb 1514 (length f)) h)))
 
 pub reading-refused : (f : List ℕ) → (headerAnswer f ≡ 0 → ⊥) → Refused (headerAnswer f) ≡ readingOf (decode f)

@@ -21,7 +21,7 @@ use Rattle.frame.specs.declared.Found.{Found}
 use Rattle.frame.specs.declared.«local_remote».Gathered.{Gathered}
 use Rattle.frame.specs.declared.«local_remote».Turn.{Turn}
 use Rattle.frame.specs.declared.«local_remote».Turn.the-variants.{Done, More}
-use Rattle.frame.proofs.Walks.{by-pick, Ahead, Rest, Then, Leads, turn}
+use Rattle.frame.proofs.Walks.{by-cond, Ahead, Rest, Then, Leads, turn}
 use Rattle.frame.proofs.Marks.{Marked, mark-within, mark-end}
 
 ahead : (s : List ℕ) (at : ℕ) (mark : Mark) → Marked InformationKind at (length s) mark → Ahead at (length s) (nextOf (stepOf s at mark))
@@ -29,7 +29,7 @@ ahead s at MarkEnd h = tt
 ahead s at MarkBroken h = tt
 ahead s at (Unknown n) h = h
 ahead s at (Known t n) h =
-    by-pick (λ (x : InformationStep). Ahead at (length s) (nextOf x)) (eqb t 1) (λ _. (h .0, h .1)) (λ _. (h .0, h .1))
+    by-cond (λ (x : InformationStep). Ahead at (length s) (nextOf x)) (eqb t 1) (λ _. (h .0, h .1)) (λ _. (h .0, h .1))
 
 pub information-leads : (s : List ℕ) → Leads (λ at. nextOf (informationStep s at)) (length s)
 unfolding informationStep

@@ -7,14 +7,14 @@ use native.Mathlib.Omega.{arith}
 use borrow.Author.Tests.{ltb-false, leb-false, leb-true, eqb-true, eqb-false, le-leb}
 use lib.ListN.{length, getD}
 use lib.Dec.{ltb, leb, eqb}
-use Rattle.frame.specs.Octets.{pick, total}
+use Rattle.frame.specs.Octets.{total}
 use Rattle.frame.specs.Tlvs.{tlvAt, row, informationLength, eventLength, known, markOf, marked, markAt}
 use Rattle.frame.specs.declared.tlvs.Tlv.{Tlv}
 use Rattle.frame.specs.declared.tlvs.Tlv.the-variants.{End as TlvEnd, Broken as TlvBroken, At}
 use Rattle.frame.specs.declared.tlvs.Mark.{Mark}
 use Rattle.frame.specs.declared.tlvs.Mark.the-variants.{End, Broken, Unknown, Known}
 use Rattle.frame.specs.declared.tlvs.Kind.{Kind}
-use Rattle.frame.proofs.Walks.{by-pick}
+use Rattle.frame.proofs.Walks.{by-cond}
 
 -- a TLV has a type and its two octets, and lies within the body
 abbrev Within : ℕ → ℕ → Tlv → Type 0
@@ -26,11 +26,11 @@ tlv-within : (s : List ℕ) (at : ℕ) → Within at (length s) (tlvAt s at)
 unfolding tlvAt
 tlv-within s at =
     let P = Within at (length s) in
-    by-pick P (leb (length s) at) (λ _. tt) (λ a.
-    by-pick P (eqb (getD s at 0) 0) (λ _. tt) (λ b.
-    by-pick P (ltb (length s - at) 2) (λ _. tt) (λ _.
-    by-pick P (ltb (getD s (at + 1) 0) 2) (λ _. tt) (λ d.
-    by-pick P (ltb (length s - at) (getD s (at + 1) 0)) (λ _. tt) (λ e.
+    by-cond P (leb (length s) at) (λ _. tt) (λ a.
+    by-cond P (eqb (getD s at 0) 0) (λ _. tt) (λ b.
+    by-cond P (ltb (length s - at) 2) (λ _. tt) (λ _.
+    by-cond P (ltb (getD s (at + 1) 0) 2) (λ _. tt) (λ d.
+    by-cond P (ltb (length s - at) (getD s (at + 1) 0)) (λ _. tt) (λ e.
     let b′ = eqb-false (getD s at 0) 0 b in
     (omega arith, omega (arith, ltb-false), refl, omega (arith, leb-false, ltb-false)))))))
 
@@ -46,8 +46,8 @@ of-tlv kind at len TlvEnd h = tt
 of-tlv kind at len TlvBroken h = tt
 of-tlv kind at len (At t n next) h =
     let k = known kind t in
-    by-pick (Marked kind at len) (eqb k 0) (λ _. (omega arith, omega arith)) (λ z.
-    by-pick (Marked kind at len) (eqb n k)
+    by-cond (Marked kind at len) (eqb k 0) (λ _. (omega arith, omega arith)) (λ z.
+    by-cond (Marked kind at len) (eqb n k)
     (λ e. let e′ = eqb-true n k e in let z′ = eqb-false k 0 z in (omega arith, omega arith, omega arith, omega arith, omega arith))
     (λ _. tt))
 
@@ -61,7 +61,7 @@ mark-end kind s at h = simp (le-leb _ _ h)
 
 -- a known Information TLV has 16 octets
 pub information-16 : (t : ℕ) → 0 < informationLength t → informationLength t ≡ 16
-information-16 t = by-pick (λ (n : ℕ). 0 < n → n ≡ 16) (eqb t 1 || eqb t 2) (λ _ _. refl) (λ _ h. absurd (omega arith))
+information-16 t = by-cond (λ (n : ℕ). 0 < n → n ≡ 16) (eqb t 1 || eqb t 2) (λ _ _. refl) (λ _ h. absurd (omega arith))
 
 -- a known event TLV has a row of the table
 pub record Tabled (t n : ℕ) : Type 0 where
@@ -72,5 +72,5 @@ pub event-tabled : (t : ℕ) → 0 < eventLength t → Tabled t (eventLength t)
 unfolding eventLength
 event-tabled t =
     let P : ℕ → Type 0 = λ (n : ℕ). 0 < n → Tabled t n in
-    by-pick P (eqb t 0) (λ _ h. absurd (omega arith)) (λ _.
-    by-pick P (ltb 4 t) (λ _ h. absurd (omega arith)) (λ u _. record { upto = omega (arith, ltb-false); long = refl }))
+    by-cond P (eqb t 0) (λ _ h. absurd (omega arith)) (λ _.
+    by-cond P (ltb 4 t) (λ _ h. absurd (omega arith)) (λ u _. record { upto = omega (arith, ltb-false); long = refl }))

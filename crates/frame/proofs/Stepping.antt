@@ -15,7 +15,7 @@ use Rattle.frame.specs.Events.{eventWalk}
 use Rattle.frame.specs.Variables.{descriptorWalk, containerWalk}
 use Rattle.frame.specs.Frame.{Body, Message, codeOf, Answer, refused, accepted, information, notification, request, response, loopback, organization, says, saysAll, headerAnswer, bodyAnswer, decode}
 use Rattle.frame.specs.Steps.{Stepped}
-use Rattle.frame.proofs.Walks.{by-pick}
+use Rattle.frame.proofs.Walks.{by-cond}
 
 -- a number that the reader gives
 abbrev Given : ℕ → Type 0
@@ -62,10 +62,10 @@ module _ (f : List ℕ) where
   unfolding headerAnswer
   header-tells =
       let P : ℕ → Type 0 = λ (n : ℕ). (n ≡ 0 → ⊥) → Given n in
-      by-pick P (ltb (length f) 60 || ltb 1514 (length f)) (λ _ _. (omega arith, omega arith)) (λ _.
-      by-pick P (not (eqb (num 6 f 0) 0x0180_c200_0002)) (λ _ _. (omega arith, omega arith)) (λ _.
-      by-pick P (not (eqb (num 2 f 12) 0x8809)) (λ _ _. (omega arith, omega arith)) (λ _.
-      by-pick P (not (eqb (getD f 14 0) 3)) (λ _ _. (omega arith, omega arith)) (λ _ z. absurd (z refl)))))
+      by-cond P (ltb (length f) 60 || ltb 1514 (length f)) (λ _ _. (omega arith, omega arith)) (λ _.
+      by-cond P (not (eqb (num 6 f 0) 0x0180_c200_0002)) (λ _ _. (omega arith, omega arith)) (λ _.
+      by-cond P (not (eqb (num 2 f 12) 0x8809)) (λ _ _. (omega arith, omega arith)) (λ _.
+      by-cond P (not (eqb (getD f 14 0) 3)) (λ _ _. (omega arith, omega arith)) (λ _ z. absurd (z refl)))))
 
   module _ (h : headerAnswer f ≡ 0) where
     tells : (b : Body) → eqb (getD f 17 0) (codeOf b) ≡ true → Stepped f b → Tells (says f b)
@@ -85,17 +85,17 @@ module _ (f : List ℕ) where
         let e = eventWalk (drop 20 f) in
         let d = descriptorWalk (drop 18 f) in
         let c = containerWalk (drop 18 f) in
-        by-pick Tells (eqb code 0) (λ t. tells-all information i (informationParts false false i) (parses-information false false i) (λ _. t) (λ _ s. s)) (λ _.
-        by-pick Tells (eqb code 1) (λ t. tells-all (notification (num 2 f 18)) e (listed e) (parses-listed e) (λ _. t) (λ _ s. (refl, s))) (λ _.
-        by-pick Tells (eqb code 2) (λ t. tells-all request d (listed d) (parses-listed d) (λ _. t) (λ _ s. s)) (λ _.
-        by-pick Tells (eqb code 3) (λ t. tells-all response c (listed c) (parses-listed c) (λ _. t) (λ _ s. s)) (λ _.
-        by-pick Tells (eqb code 4) (λ t. by-pick Tells (eqb command 1 || eqb command 2) (λ _. tells (loopback command) t refl) (λ _. (omega arith, omega arith))) (λ _.
-        by-pick Tells (eqb code 0xfe) (λ t. tells (organization (num 3 f 18) (drop 21 f)) t (refl, refl)) (λ _. (omega arith, omega arith)))))))
+        by-cond Tells (eqb code 0) (λ t. tells-all information i (informationParts false false i) (parses-information false false i) (λ _. t) (λ _ s. s)) (λ _.
+        by-cond Tells (eqb code 1) (λ t. tells-all (notification (num 2 f 18)) e (listed e) (parses-listed e) (λ _. t) (λ _ s. (refl, s))) (λ _.
+        by-cond Tells (eqb code 2) (λ t. tells-all request d (listed d) (parses-listed d) (λ _. t) (λ _ s. s)) (λ _.
+        by-cond Tells (eqb code 3) (λ t. tells-all response c (listed c) (parses-listed c) (λ _. t) (λ _ s. s)) (λ _.
+        by-cond Tells (eqb code 4) (λ t. by-cond Tells (eqb command 1 || eqb command 2) (λ _. tells (loopback command) t refl) (λ _. (omega arith, omega arith))) (λ _.
+        by-cond Tells (eqb code 0xfe) (λ t. tells (organization (num 3 f 18) (drop 21 f)) t (refl, refl)) (λ _. (omega arith, omega arith)))))))
 
   answer-tells : Tells (decode f)
   unfolding decode
   answer-tells =
-      by-pick Tells (eqb (headerAnswer f) 0) (λ h. body-tells (eqb-true (headerAnswer f) 0 h)) (λ h. header-tells (eqb-false (headerAnswer f) 0 h))
+      by-cond Tells (eqb (headerAnswer f) 0) (λ h. body-tells (eqb-true (headerAnswer f) 0 h)) (λ h. header-tells (eqb-false (headerAnswer f) 0 h))
 
   pub shown : (m : Message) → decode f ≡ accepted m → Shown f m
   shown m e = subst Tells e answer-tells

@@ -1,15 +1,14 @@
 -- Laws of a walk over the parts of a body: one turn of a loop that walks, and why a body's length is steps enough.
 use Prim.Native.Nat.{ℕ, zero, suc, _+_, _<_, _≤_}
 use mathlib.Core.Path.{_≡_, refl, sym, ap, subst}
-use mathlib.Core.Bool.{Bool, true, false}
+use mathlib.Core.Bool.{Bool, true, false, cond}
 use native.Mathlib.Omega.{arith}
-use Rattle.frame.specs.Octets.{pick}
 use Rattle.frame.specs.Walk.{Next, stop, broken, skip, has, Walk, ends, breaks, over, part, onNext, walk}
 
--- a property of a pick, from each of its two answers under its test
-pub by-pick {ℓ} : {X : Type ℓ} (P : X → Type 0) (b : Bool) {x y : X} → (b ≡ true → P x) → (b ≡ false → P y) → P (pick b x y)
-by-pick P true f g = f refl
-by-pick P false f g = g refl
+-- a property of a cond, from each of its two answers under its test
+pub by-cond {ℓ} : {X : Type ℓ} (P : X → Type 0) (b : Bool) {x y : X} → (b ≡ true → P x) → (b ≡ false → P y) → P (cond b x y)
+by-cond P true f g = f refl
+by-cond P false f g = g refl
 
 -- the octet after a part lies ahead, within the body
 abbrev pub Ahead : {P : Type 0} → ℕ → ℕ → Next P → Type 0

@@ -7,7 +7,6 @@ use native.Mathlib.Omega.{arith}
 use borrow.Author.Tests.{ltb-false, leb-false, le-leb}
 use lib.ListN.{length, getD}
 use lib.Dec.{ltb, leb, eqb}
-use Rattle.frame.specs.Octets.{pick}
 use Rattle.frame.specs.Tlvs.{markAt}
 use Rattle.frame.specs.Walk.{Next, stop, broken, skip, has, Walk, onNext, walk, whole}
 use Rattle.frame.specs.Events.{eventStep, eventWalk}
@@ -24,7 +23,7 @@ use Rattle.frame.specs.declared.lists.Place.{Place}
 use Rattle.frame.specs.declared.lists.Place.the-variants.{End, Broken, Skip, Has}
 use Rattle.frame.specs.declared.lists.ListKind.{ListKind}
 use Rattle.frame.specs.declared.lists.ListKind.the-variants.{Events, Descriptors, Containers}
-use Rattle.frame.proofs.Walks.{by-pick, Ahead, Rest, Then, Leads, turn}
+use Rattle.frame.proofs.Walks.{by-cond, Ahead, Rest, Then, Leads, turn}
 use Rattle.frame.proofs.Marks.{Marked, mark-within, mark-end}
 
 -- where a descriptor, and what follows it in a container, stands
@@ -37,9 +36,9 @@ pub descriptor-within : (s : List ℕ) (at : ℕ) → Described at (length s) (d
 unfolding descriptorStep
 descriptor-within s at =
     let P = Described at (length s) in
-    by-pick P (leb (length s) at) (λ _. tt) (λ a.
-    by-pick P (eqb (getD s at 0) 0) (λ _. tt) (λ _.
-    by-pick P (ltb (length s - at) 3) (λ _. tt) (λ b. (refl, omega (arith, leb-false, ltb-false)))))
+    by-cond P (leb (length s) at) (λ _. tt) (λ a.
+    by-cond P (eqb (getD s at 0) 0) (λ _. tt) (λ _.
+    by-cond P (ltb (length s - at) 3) (λ _. tt) (λ b. (refl, omega (arith, leb-false, ltb-false)))))
 
 pub descriptor-end : (s : List ℕ) (at : ℕ) → length s ≤ at → descriptorStep s at ≡ DescriptorEnd
 unfolding descriptorStep
@@ -57,9 +56,9 @@ from-descriptor s at DescriptorBroken h = tt
 from-descriptor s at (HasDescriptor d from) h =
     let P = Contained at (length s) in
     let o = getD s from 0 in
-    by-pick P (leb (length s) from) (λ _. tt) (λ a.
-    by-pick P (leb 128 o) (λ _. (omega arith, omega (arith, leb-false))) (λ _.
-    by-pick P (ltb (length s - (from + 1)) (widthOf o)) (λ _. tt) (λ b. (omega arith, omega (arith, leb-false, ltb-false)))))
+    by-cond P (leb (length s) from) (λ _. tt) (λ a.
+    by-cond P (leb 128 o) (λ _. (omega arith, omega (arith, leb-false))) (λ _.
+    by-cond P (ltb (length s - (from + 1)) (widthOf o)) (λ _. tt) (λ b. (omega arith, omega (arith, leb-false, ltb-false)))))
 
 pub container-within : (s : List ℕ) (at : ℕ) → Contained at (length s) (containerStep s at)
 unfolding containerStep

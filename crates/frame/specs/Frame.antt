@@ -1,10 +1,10 @@
 -- Frames: the message that a frame says, or the number of its refusal, and what the reader shows of either.
 use Prim.Native.Nat.{ℕ}
 use mathlib.Core.List.{List}
-use mathlib.Core.Bool.{Bool, true, false, not, _||_}
+use mathlib.Core.Bool.{Bool, true, false, not, cond, _||_}
 use lib.ListN.{length, getD, drop}
 use lib.Dec.{ltb, eqb}
-use Rattle.frame.specs.Octets.{pick, num}
+use Rattle.frame.specs.Octets.{num}
 use Rattle.frame.specs.Walk.{Parsed, refused as unread, parts, listed}
 use Rattle.frame.specs.Information.{InformationPart, informationWalk, informationParts, nothing, keepAll}
 use Rattle.frame.specs.Events.{eventWalk}
@@ -46,10 +46,10 @@ pub data Answer : Type 0 where
 -- 01-80-C2-00-00-02", "Length/Type is not 88-09", "subtype is not 3".
 unfoldable pub headerAnswer : List ℕ → ℕ
 headerAnswer f =
-    pick (ltb (length f) 60 || ltb 1514 (length f)) 1
-    (pick (not (eqb (num 6 f 0) 0x0180_c200_0002)) 2
-    (pick (not (eqb (num 2 f 12) 0x8809)) 3
-    (pick (not (eqb (getD f 14 0) 3)) 4
+    cond (ltb (length f) 60 || ltb 1514 (length f)) 1
+    (cond (not (eqb (num 6 f 0) 0x0180_c200_0002)) 2
+    (cond (not (eqb (num 2 f 12) 0x8809)) 3
+    (cond (not (eqb (getD f 14 0) 3)) 4
     0)))
 
 -- "Destination 6, source 6, type 2, subtype 1, flags 2, code 1; the body starts at octet 18."
@@ -65,17 +65,17 @@ saysAll f make (parts ps) = says f (make ps)
 -- included." "loopback command is not 1 or 2" is 8, "code is 05 to FD, or FF" is 5.
 unfoldable pub bodyAnswer : List ℕ → ℕ → Answer
 bodyAnswer f code =
-    pick (eqb code 0) (saysAll f information (informationParts false false (informationWalk (drop 18 f))))
-    (pick (eqb code 1) (saysAll f (notification (num 2 f 18)) (listed (eventWalk (drop 20 f))))
-    (pick (eqb code 2) (saysAll f request (listed (descriptorWalk (drop 18 f))))
-    (pick (eqb code 3) (saysAll f response (listed (containerWalk (drop 18 f))))
-    (pick (eqb code 4) (pick (eqb (getD f 18 0) 1 || eqb (getD f 18 0) 2) (says f (loopback (getD f 18 0))) (refused 8))
-    (pick (eqb code 0xfe) (says f (organization (num 3 f 18) (drop 21 f)))
+    cond (eqb code 0) (saysAll f information (informationParts false false (informationWalk (drop 18 f))))
+    (cond (eqb code 1) (saysAll f (notification (num 2 f 18)) (listed (eventWalk (drop 20 f))))
+    (cond (eqb code 2) (saysAll f request (listed (descriptorWalk (drop 18 f))))
+    (cond (eqb code 3) (saysAll f response (listed (containerWalk (drop 18 f))))
+    (cond (eqb code 4) (cond (eqb (getD f 18 0) 1 || eqb (getD f 18 0) 2) (says f (loopback (getD f 18 0))) (refused 8))
+    (cond (eqb code 0xfe) (says f (organization (num 3 f 18) (drop 21 f)))
     (refused 5))))))
 
 -- "Reading: 1 to 5 in order, then the body in octet order; at one TLV 6 comes before 7."
 unfoldable pub decode : List ℕ → Answer
-decode f = pick (eqb (headerAnswer f) 0) (bodyAnswer f (getD f 17 0)) (refused (headerAnswer f))
+decode f = cond (eqb (headerAnswer f) 0) (bodyAnswer f (getD f 17 0)) (refused (headerAnswer f))
 
 -- What the reader shows of a message: its header and the body's fixed numbers (event number, command, OUI); of an Information
 -- body its Local and Remote TLVs. The parts in order are shown by the steps.

@@ -1,10 +1,10 @@
 -- The parts of an Information body, and what a reader finds there.
 use Prim.Native.Nat.{ℕ, _+_}
 use mathlib.Core.List.{List, [], _∷_}
-use mathlib.Core.Bool.{Bool, true, false}
+use mathlib.Core.Bool.{Bool, true, false, cond}
 use lib.ListN.{length}
 use lib.Dec.{eqb}
-use Rattle.frame.specs.Octets.{pick, num}
+use Rattle.frame.specs.Octets.{num}
 use Rattle.frame.specs.Walk.{Next, stop, broken, skip, has, Walk, ends, breaks, over, part, walk, Parsed, refused, parts, also}
 use Rattle.frame.specs.Tlvs.{markAt}
 use Rattle.frame.specs.declared.tlvs.Mark.{Mark}
@@ -35,7 +35,7 @@ abbrev pub stepOf : List ℕ → ℕ → Mark → InformationStep
 stepOf s at MarkEnd = End
 stepOf s at MarkBroken = Broken
 stepOf s at (Unknown next) = Skip next
-stepOf s at (Known t next) = pick (eqb t 1) (Local (informationAt s at) next) (Remote (informationAt s at) next)
+stepOf s at (Known t next) = cond (eqb t 1) (Local (informationAt s at) next) (Remote (informationAt s at) next)
 
 -- what stands at octet `at` of an Information body
 unfoldable pub informationStep : List ℕ → ℕ → InformationStep
@@ -61,8 +61,8 @@ abbrev pub informationParts : Bool → Bool → Walk InformationPart → Parsed 
 informationParts l r ends = parts []
 informationParts l r breaks = refused 6
 informationParts l r (over w) = informationParts l r w
-informationParts l r (part (local i) w) = pick l (refused 7) (also (local i) (informationParts true r w))
-informationParts l r (part (remote i) w) = pick r (refused 7) (also (remote i) (informationParts l true w))
+informationParts l r (part (local i) w) = cond l (refused 7) (also (local i) (informationParts true r w))
+informationParts l r (part (remote i) w) = cond r (refused 7) (also (remote i) (informationParts l true w))
 
 -- what a reader finds of the parts
 abbrev pub keep : Found → InformationPart → Found

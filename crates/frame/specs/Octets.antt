@@ -1,13 +1,7 @@
 -- Numbers that stand in octets. "All numbers are big-endian."
 use Prim.Native.Nat.{ℕ, zero, suc, _+_, _*_}
 use mathlib.Core.List.{List, [], _∷_}
-use mathlib.Core.Bool.{Bool, true, false}
 use lib.ListN.{getD}
-
--- the first where the test holds, else the second
-abbrev pub pick {ℓ} : {X : Type ℓ} → Bool → X → X → X
-pick true x y = x
-pick false x y = y
 
 -- the number in the `width` octets of s from octet `at`; octets past the end count as 0, and every use is behind a length test
 abbrev pub num : ℕ → List ℕ → ℕ → ℕ

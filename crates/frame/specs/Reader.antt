@@ -1,10 +1,10 @@
 -- How the code comes to its answers. No public promise mentions anything here.
 use Prim.Native.Nat.{ℕ}
 use mathlib.Core.List.{List}
-use mathlib.Core.Bool.{Bool, true, false}
+use mathlib.Core.Bool.{Bool, true, false, cond}
 use lib.ListN.{getD, drop}
 use lib.Dec.{eqb}
-use Rattle.frame.specs.Octets.{pick, num}
+use Rattle.frame.specs.Octets.{num}
 use Rattle.frame.specs.Walk.{Parsed, refused, parts}
 use Rattle.frame.specs.Information.{InformationPart, local, remote, informationWalk, informationParts, keep, keepAll, nothing}
 use Rattle.frame.specs.Lists.{wholeList}
@@ -38,10 +38,10 @@ isHeld Nothing = false
 isHeld (Is i) = true
 
 abbrev pub keepLocal : Found → Information → ℕ → Turn
-keepLocal found i n = pick (isHeld (found .local)) (Done (RefusedGathered 7)) (More n (keep found (local i)))
+keepLocal found i n = cond (isHeld (found .local)) (Done (RefusedGathered 7)) (More n (keep found (local i)))
 
 abbrev pub keepRemote : Found → Information → ℕ → Turn
-keepRemote found i n = pick (isHeld (found .remote)) (Done (RefusedGathered 7)) (More n (keep found (remote i)))
+keepRemote found i n = cond (isHeld (found .remote)) (Done (RefusedGathered 7)) (More n (keep found (remote i)))
 
 abbrev pub turnOf : InformationStep → Found → Turn
 turnOf End found = Done (Whole found)
@@ -60,17 +60,17 @@ gatheredReading h (RefusedGathered n) = Refused n
 gatheredReading h (Whole found) = InformationIs h found
 
 abbrev pub listReading : Bool → Reading → Reading
-listReading whole reading = pick whole reading (Refused 6)
+listReading whole reading = cond whole reading (Refused 6)
 
 abbrev pub loopbackReading : Header → ℕ → Reading
-loopbackReading h n = pick (eqb n 1) (Loopback h n) (pick (eqb n 2) (Loopback h n) (Refused 8))
+loopbackReading h n = cond (eqb n 1) (Loopback h n) (cond (eqb n 2) (Loopback h n) (Refused 8))
 
 unfoldable pub bodyReading : List ℕ → Header → Reading
 bodyReading f h =
-    pick (eqb (h .code) 0) (gatheredReading h (gatheredOf (drop 18 f)))
-    (pick (eqb (h .code) 1) (listReading (wholeList Events (drop 20 f)) (Notification h (num 2 f 18)))
-    (pick (eqb (h .code) 2) (listReading (wholeList Descriptors (drop 18 f)) (Request h))
-    (pick (eqb (h .code) 3) (listReading (wholeList Containers (drop 18 f)) (Response h))
-    (pick (eqb (h .code) 4) (loopbackReading h (getD f 18 0))
-    (pick (eqb (h .code) 0xfe) (Organization h (num 3 f 18))
+    cond (eqb (h .code) 0) (gatheredReading h (gatheredOf (drop 18 f)))
+    (cond (eqb (h .code) 1) (listReading (wholeList Events (drop 20 f)) (Notification h (num 2 f 18)))
+    (cond (eqb (h .code) 2) (listReading (wholeList Descriptors (drop 18 f)) (Request h))
+    (cond (eqb (h .code) 3) (listReading (wholeList Containers (drop 18 f)) (Response h))
+    (cond (eqb (h .code) 4) (loopbackReading h (getD f 18 0))
+    (cond (eqb (h .code) 0xfe) (Organization h (num 3 f 18))
     (Refused 5))))))

@@ -1,10 +1,10 @@
 -- The TLVs of Information and Event Notification bodies.
 use Prim.Native.Nat.{ℕ, zero, suc, _+_, _-_}
 use mathlib.Core.List.{List, [], _∷_}
-use mathlib.Core.Bool.{Bool, true, false, _||_}
+use mathlib.Core.Bool.{Bool, true, false, cond, _||_}
 use lib.ListN.{length, getD, replicate}
 use lib.Dec.{ltb, leb, eqb}
-use Rattle.frame.specs.Octets.{pick, total}
+use Rattle.frame.specs.Octets.{total}
 use Rattle.frame.specs.declared.tlvs.Tlv.{Tlv}
 use Rattle.frame.specs.declared.tlvs.Tlv.the-variants.{End as TlvEnd, Broken as TlvBroken, At}
 use Rattle.frame.specs.declared.tlvs.Mark.{Mark}
@@ -16,16 +16,16 @@ use Rattle.frame.specs.declared.tlvs.Kind.the-variants.{Information, Eve
 -- frame's end ends it too. Broken: no length octet, length below 2, running past the frame".
 unfoldable pub tlvAt : List ℕ → ℕ → Tlv
 tlvAt s at =
-    pick (leb (length s) at) TlvEnd
-    (pick (eqb (getD s at 0) 0) TlvEnd
-    (pick (ltb (length s - at) 2) TlvBroken
-    (pick (ltb (getD s (at + 1) 0) 2) TlvBroken
-    (pick (ltb (length s - at) (getD s (at + 1) 0)) TlvBroken
+    cond (leb (length s) at) TlvEnd
+    (cond (eqb (getD s at 0) 0) TlvEnd
+    (cond (ltb (length s - at) 2) TlvBroken
+    (cond (ltb (getD s (at + 1) 0) 2) TlvBroken
+    (cond (ltb (length s - at) (getD s (at + 1) 0)) TlvBroken
     (At (getD s at 0) (getD s (at + 1) 0) (at + getD s (at + 1) 0))))))
 
 -- "Information 01 (Local) and 02 (Remote), length 16"; 0 for a type that is not known
 abbrev pub informationLength : ℕ → ℕ
-informationLength t = pick (eqb t 1 || eqb t 2) 16 0
+informationLength t = cond (eqb t 1 || eqb t 2) 16 0
 
 -- "Event TLVs, width in octets of each field": timestamp, window, threshold, errors, error total, event total, by type from 1 on
 abbrev pub rows : List (List ℕ)
@@ -42,11 +42,11 @@ row (suc t) = getD rows t []
 
 -- the row of a type, zeros for a type that is not in the table
 unfoldable pub widthsOf : ℕ → List ℕ
-widthsOf t = pick (eqb t 0) (replicate 6 0) (pick (ltb 4 t) (replicate 6 0) (row t))
+widthsOf t = cond (eqb t 0) (replicate 6 0) (cond (ltb 4 t) (replicate 6 0) (row t))
 
 -- the length of an event TLV by its row, 0 for a type that is not in the table
 unfoldable pub eventLength : ℕ → ℕ
-eventLength t = pick (eqb t 0) 0 (pick (ltb 4 t) 0 (2 + total (row t)))
+eventLength t = cond (eqb t 0) 0 (cond (ltb 4 t) 0 (2 + total (row t)))
 
 abbrev pub known : Kind → ℕ → ℕ
 known Information t = informationLength t
@@ -54,7 +54,7 @@ known Events t = eventLength t
 
 -- "or a known type with another length. Unknown types are skipped."
 abbrev pub markOf : ℕ → ℕ → ℕ → ℕ → Mark
-markOf t n next expected = pick (eqb expected 0) (Unknown next) (pick (eqb n expected) (Known t next) Broken)
+markOf t n next expected = cond (eqb expected 0) (Unknown next) (cond (eqb n expected) (Known t next) Broken)
 
 abbrev pub marked : Kind → Tlv → Mark
 marked kind TlvEnd = End

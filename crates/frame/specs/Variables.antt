@@ -1,10 +1,10 @@
 -- The descriptors of a Variable Request and the containers of a Variable Response.
 use Prim.Native.Nat.{ℕ, _+_, _-_}
 use mathlib.Core.List.{List, []}
-use mathlib.Core.Bool.{Bool, true, false}
+use mathlib.Core.Bool.{Bool, true, false, cond}
 use lib.ListN.{length, getD, take, drop}
 use lib.Dec.{ltb, leb, eqb}
-use Rattle.frame.specs.Octets.{pick, num}
+use Rattle.frame.specs.Octets.{num}
 use Rattle.frame.specs.Walk.{Next, stop, broken, has, Walk, walk}
 use Rattle.frame.specs.declared.DescriptorStep.{DescriptorStep}
 use Rattle.frame.specs.declared.DescriptorStep.the-variants.{End as DescriptorEnd, Broken as DescriptorBroken, Has}
@@ -15,23 +15,23 @@ use Rattle.frame.specs.declared.ContainerStep.the-variants.{End, Broken,
 -- the frame's end is broken." The frame's end ends the list too.
 unfoldable pub descriptorStep : List ℕ → ℕ → DescriptorStep
 descriptorStep s at =
-    pick (leb (length s) at) DescriptorEnd
-    (pick (eqb (getD s at 0) 0) DescriptorEnd
-    (pick (ltb (length s - at) 3) DescriptorBroken
+    cond (leb (length s) at) DescriptorEnd
+    (cond (eqb (getD s at 0) 0) DescriptorEnd
+    (cond (ltb (length s - at) 3) DescriptorBroken
     (Has (num 3 s at) (at + 3))))
 
 -- "Width 0 is 128 octets, 1 to 127 itself"
 abbrev pub widthOf : ℕ → ℕ
-widthOf octet = pick (eqb octet 0) 128 octet
+widthOf octet = cond (eqb octet 0) 128 octet
 
 -- "with bit 7 set it is an indication without value"
 abbrev pub containerFrom : List ℕ → DescriptorStep → ContainerStep
 containerFrom s DescriptorEnd = End
 containerFrom s DescriptorBroken = Broken
 containerFrom s (Has descriptor from) =
-    pick (leb (length s) from) Broken
-    (pick (leb 128 (getD s from 0)) (Indication descriptor (getD s from 0) (from + 1))
-    (pick (ltb (length s - (from + 1)) (widthOf (getD s from 0))) Broken
+    cond (leb (length s) from) Broken
+    (cond (leb 128 (getD s from 0)) (Indication descriptor (getD s from 0) (from + 1))
+    (cond (ltb (length s - (from + 1)) (widthOf (getD s from 0))) Broken
     (Value descriptor (widthOf (getD s from 0)) (from + 1 + widthOf (getD s from 0)))))
 
 -- "Container: descriptor, width 1, value."

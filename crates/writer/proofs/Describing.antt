@@ -16,7 +16,7 @@ use Rattle.frame.specs.declared.DescriptorStep.{DescriptorStep}
 use Rattle.frame.specs.declared.DescriptorStep.the-variants.{End as DescriptorEnd, Broken as DescriptorBroken, Has}
 use Rattle.frame.specs.declared.ContainerStep.{ContainerStep}
 use Rattle.frame.proofs.Numbers.{Octets, num-lt}
-use Rattle.frame.proofs.Walks.{by-pick}
+use Rattle.frame.proofs.Walks.{by-cond}
 use Rattle.writer.specs.Octets.{oct}
 use Rattle.writer.specs.Plain.{every, plainDescriptor}
 use Rattle.writer.proofs.Bools.{and-l, and-r}
@@ -56,9 +56,9 @@ module _ (s : List ℕ) where
   unfolding descriptorStep
   shows o at =
       let P : DescriptorStep → Type 0 = λ x. Each (Shown (oct 3) plainDescriptor s at) ⊥ (descriptorNext x) in
-      by-pick P (leb (length s) at) (λ _. tt) (λ a.
-      by-pick P (eqb (getD s at 0) 0) (λ _. tt) (λ b.
-      by-pick P (ltb (length s - at) 3) (λ _. tt) (λ c.
+      by-cond P (leb (length s) at) (λ _. tt) (λ a.
+      by-cond P (eqb (getD s at 0) 0) (λ _. tt) (λ b.
+      by-cond P (ltb (length s - at) 3) (λ _. tt) (λ c.
       let branch = eqb-false (getD s at 0) 0 b in
       let low : 65536 ≤ num 3 s at = rw add-zero (omega arith) in (
         number-again s o 3 at (omega (arith, leb-false, ltb-false)),
@@ -72,7 +72,7 @@ module _ (s : List ℕ) where
       record {
         some = λ d _. omega (arith, length-oct 3 d);
         meets = λ at d y h e. ap descriptorNext (step-read at d y h e);
-        stops = λ at h. by-pick (λ (x : DescriptorStep). descriptorNext x ≡ stop) (leb (length s) at) (λ _. refl) (λ _. rw h);
+        stops = λ at h. by-cond (λ (x : DescriptorStep). descriptorNext x ≡ stop) (leb (length s) at) (λ _. refl) (λ _. rw h);
         shows = shows;
       }
 
@@ -83,9 +83,9 @@ module _ (s : List ℕ) where
   contains at (Has d from) h =
       let P : ContainerStep → Type 0 = λ x. Each (λ c n. fitContainer c ≡ true) ⊥ (containerNext s x) in
       let o = getD s from 0 in
-      by-pick P (leb (length s) from) (λ _. tt) (λ _.
-      by-pick P (leb 128 o) (λ _. h .1) (λ _.
-      by-pick P (ltb (length s - (from + 1)) (widthOf o)) (λ _. tt) (λ _. h .1)))
+      by-cond P (leb (length s) from) (λ _. tt) (λ _.
+      by-cond P (leb 128 o) (λ _. h .1) (λ _.
+      by-cond P (ltb (length s - (from + 1)) (widthOf o)) (λ _. tt) (λ _. h .1)))
 
   -- every container of a response has such a descriptor
   pub containers-fit : Octets s → every fitContainer (met (containerWalk s)) ≡ true

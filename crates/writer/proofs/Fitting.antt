@@ -14,7 +14,7 @@ use Rattle.frame.specs.Variables.{descriptorWalk}
 use Rattle.frame.specs.Frame.{Body, information, notification, request, response, loopback, organization, Message, codeOf, Answer, accepted, bodyAnswer, decode}
 use Rattle.frame.specs.Steps.{Stepped}
 use Rattle.frame.proofs.Numbers.{Octets, num-lt}
-use Rattle.frame.proofs.Walks.{by-pick}
+use Rattle.frame.proofs.Walks.{by-cond}
 use Rattle.frame.proofs.Stepping.{steps-give-parts}
 use Rattle.writer.specs.Plain.{every, plainEvent, plainDescriptor}
 use Rattle.writer.proofs.Bools.{one-of}
@@ -50,7 +50,7 @@ body-fits f o m (response cs) h a = rw h (containers-fit (drop 18 f) (octets-fro
 body-fits f o m (loopback n) h a =
     let c = getD f 18 0 in
     rw h
-    (by-pick (λ (x : Answer). x ≡ accepted m → (c ≡ 1) ⊎ (c ≡ 2)) (eqb c 1 || eqb c 2)
+    (by-cond (λ (x : Answer). x ≡ accepted m → (c ≡ 1) ⊎ (c ≡ 2)) (eqb c 1 || eqb c 2)
     (λ t _. one-of (eqb c 1) (eqb c 2) (λ u. inl (eqb-true c 1 u)) (λ u. inr (eqb-true c 2 u)) t)
     (λ _ e. let z : _≡_ {A = ℕ} 0 1 = cc in absurd (omega arith))
     a)

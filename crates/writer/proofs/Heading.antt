@@ -12,7 +12,7 @@ use Rattle.frame.specs.Octets.{num}
 use Rattle.frame.specs.Events.{fieldsAt}
 use Rattle.frame.specs.Frame.{Message, codeOf, accepted, headerAnswer, bodyAnswer, decode}
 use Rattle.frame.proofs.Numbers.{Octets}
-use Rattle.frame.proofs.Walks.{by-pick}
+use Rattle.frame.proofs.Walks.{by-cond}
 use Rattle.frame.proofs.Stepping.{shown}
 use Rattle.writer.specs.Octets.{octs, fit}
 use Rattle.writer.specs.Encode.{headerOctets}
@@ -76,10 +76,10 @@ module _ (f : List ℕ) where
   passed : Passed (headerAnswer f)
   unfolding headerAnswer
   passed =
-      by-pick Passed (ltb (length f) 60 || ltb 1514 (length f)) (λ _ z. absurd (omega arith)) (λ sized.
-      by-pick Passed (not (eqb (num 6 f 0) 0x0180_c200_0002)) (λ _ z. absurd (omega arith)) (λ to.
-      by-pick Passed (not (eqb (num 2 f 12) 0x8809)) (λ _ z. absurd (omega arith)) (λ type.
-      by-pick Passed (not (eqb (getD f 14 0) 3)) (λ _ z. absurd (omega arith)) (λ subtype _ code e.
+      by-cond Passed (ltb (length f) 60 || ltb 1514 (length f)) (λ _ z. absurd (omega arith)) (λ sized.
+      by-cond Passed (not (eqb (num 6 f 0) 0x0180_c200_0002)) (λ _ z. absurd (omega arith)) (λ to.
+      by-cond Passed (not (eqb (num 2 f 12) 0x8809)) (λ _ z. absurd (omega arith)) (λ type.
+      by-cond Passed (not (eqb (getD f 14 0) 3)) (λ _ z. absurd (omega arith)) (λ subtype _ code e.
       let s = neither (ltb (length f) 60) (ltb 1514 (length f)) sized in
       record {
         long = ltb-false (length f) 60 (s .0);

@@ -2,13 +2,12 @@
 use Prim.Native.Nat.{ℕ, _+_, _<_, _≤_}
 use mathlib.Core.Path.{_≡_, refl, sym, ap, _∙_}
 use mathlib.Core.List.{List, [], _∷_, _++_}
-use mathlib.Core.Bool.{Bool, true, false, _||_}
+use mathlib.Core.Bool.{Bool, true, false, cond, _||_}
 use native.Mathlib.Omega.{arith}
 use native.Mathlib.Nat.{add-assoc}
 use borrow.Author.Tests.{eqb-true, eqb-false}
 use lib.ListN.{length, getD, drop}
 use lib.Dec.{eqb}
-use Rattle.frame.specs.Octets.{pick}
 use Rattle.frame.specs.Tlvs.{informationLength, markAt}
 use Rattle.frame.specs.Events.{fieldsAt}
 use Rattle.frame.specs.Walk.{Next, has, parts}
@@ -20,7 +19,7 @@ use Rattle.frame.specs.declared.Information.{Information}
 use Rattle.frame.specs.declared.InformationStep.{InformationStep}
 use Rattle.frame.specs.declared.InformationStep.the-variants.{Local, Remote}
 use Rattle.frame.proofs.Numbers.{Octets}
-use Rattle.frame.proofs.Walks.{by-pick}
+use Rattle.frame.proofs.Walks.{by-cond}
 use Rattle.frame.proofs.Marks.{Marked, mark-within, information-16}
 use Rattle.writer.specs.Octets.{octs, fit}
 use Rattle.writer.specs.Encode.{informationWidths, informationValues, informationOctets, partOctets}
@@ -60,7 +59,7 @@ module _ (s : List ℕ) where
 
   -- the step where the TLV of a known type was written
   step-read : (at t : ℕ) (i : Information) (y : List ℕ) → 0 < t → t < 256 → informationLength t ≡ 16 → fit informationWidths (informationValues i) ≡ true
-      → drop at s ≡ informationOctets t i ++ y → informationStep s at ≡ pick (eqb t 1) (Local i (at + 16)) (Remote i (at + 16))
+      → drop at s ≡ informationOctets t i ++ y → informationStep s at ≡ cond (eqb t 1) (Local i (at + 16)) (Remote i (at + 16))
   unfolding informationStep informationOctets
   step-read at t i y l u long f e =
       let e′ : drop at s ≡ tlvOctets InformationKind t informationWidths (informationValues i) ++ y = rw long e in
@@ -82,7 +81,7 @@ module _ (s : List ℕ) where
   shows o at (Unknown n) m h = tt
   shows o at (Known t n) m h =
       let upto : t ≤ 2 =
-      by-pick (λ (k : ℕ). 0 < k → t ≤ 2) (eqb t 1 || eqb t 2)
+      by-cond (λ (k : ℕ). 0 < k → t ≤ 2) (eqb t 1 || eqb t 2)
       (λ e _. one-of (eqb t 1) (eqb t 2) (λ u. omega (arith, eqb-true t 1 u)) (λ u. omega (arith, eqb-true t 2 u)) e)
       (λ _ z. absurd (omega arith))
       (m .4) in
@@ -91,7 +90,7 @@ module _ (s : List ℕ) where
       λ u e. h informationWidths long ∙ (λ j. octs (1 ∷ 1 ∷ informationWidths) (e j ∷ long j ∷ fields s at j) ++ drop n s) in
       let fits : fit informationWidths (informationValues (informationAt s at)) ≡ true =
       ap (fit informationWidths) (sym (fields s at)) ∙ fields-fit s o informationWidths (at + 2) in
-      by-pick (λ (x : InformationStep). Each (Shown partOctets fitPart s at) Unit (nextOf x)) (eqb t 1)
+      by-cond (λ (x : InformationStep). Each (Shown partOctets fitPart s at) Unit (nextOf x)) (eqb t 1)
       (λ e. (stands 1 (eqb-true t 1 e), fits)) (λ e. let e′ = eqb-false t 1 e in (stands 2 (omega arith), fits))
 
   -- Information TLVs are met where they were written, and stand where they are met

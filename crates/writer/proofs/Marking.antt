@@ -18,7 +18,7 @@ use Rattle.frame.specs.declared.tlvs.Mark.{Mark}
 use Rattle.frame.specs.declared.tlvs.Mark.the-variants.{End, Broken, Unknown, Known}
 use Rattle.frame.specs.declared.tlvs.Kind.{Kind}
 use Rattle.frame.proofs.Numbers.{Octets}
-use Rattle.frame.proofs.Walks.{by-pick}
+use Rattle.frame.proofs.Walks.{by-cond}
 use Rattle.frame.proofs.Marks.{Marked, mark-within}
 use Rattle.writer.specs.Octets.{octs, fit}
 use Rattle.writer.proofs.Lengths.{length-octs}
@@ -27,7 +27,7 @@ use Rattle.writer.proofs.Numbers.{past, fields-read, fields-again}
 -- at a 0, or at the body's end, nothing is marked
 pub mark-stop : (kind : Kind) (s : List ℕ) (at : ℕ) → getD s at 0 ≡ 0 → markAt kind s at ≡ End
 unfolding markAt tlvAt
-mark-stop kind s at h = ap (marked kind) (by-pick (λ (x : Tlv). x ≡ TlvEnd) (leb (length s) at) (λ _. refl) (λ _. rw h))
+mark-stop kind s at h = ap (marked kind) (by-cond (λ (x : Tlv). x ≡ TlvEnd) (leb (length s) at) (λ _. refl) (λ _. rw h))
 
 -- the octets of a TLV, by the widths and values after its type and length
 abbrev pub tlvOctets : Kind → ℕ → List ℕ → List ℕ → List ℕ
@@ -74,11 +74,11 @@ typed : (s : List ℕ) (at : ℕ) → Typed s at (tlvAt s at)
 unfolding tlvAt
 typed s at =
     let P = Typed s at in
-    by-pick P (leb (length s) at) (λ _. tt) (λ _.
-    by-pick P (eqb (getD s at 0) 0) (λ _. tt) (λ _.
-    by-pick P (ltb (length s - at) 2) (λ _. tt) (λ _.
-    by-pick P (ltb (getD s (at + 1) 0) 2) (λ _. tt) (λ _.
-    by-pick P (ltb (length s - at) (getD s (at + 1) 0)) (λ _. tt) (λ _. (refl, refl))))))
+    by-cond P (leb (length s) at) (λ _. tt) (λ _.
+    by-cond P (eqb (getD s at 0) 0) (λ _. tt) (λ _.
+    by-cond P (ltb (length s - at) 2) (λ _. tt) (λ _.
+    by-cond P (ltb (getD s (at + 1) 0) 2) (λ _. tt) (λ _.
+    by-cond P (ltb (length s - at) (getD s (at + 1) 0)) (λ _. tt) (λ _. (refl, refl))))))
 
 -- what is told of a known TLV
 abbrev pub OnKnown : (ℕ → ℕ → Type 0) → Mark → Type 0
@@ -100,8 +100,8 @@ module _ (kind : Kind) (s : List ℕ) (at : ℕ) (o : Octets s) where
   again TlvEnd h = λ _. tt
   again TlvBroken h = λ _. tt
   again (At t n next) h =
-      by-pick Again (eqb (known kind t) 0) (λ _ _. tt) (λ _.
-      by-pick Again (eqb n (known kind t))
+      by-cond Again (eqb (known kind t) 0) (λ _ _. tt) (λ _.
+      by-cond Again (eqb n (known kind t))
       (λ e m ws k.
       let e′ = eqb-true n (known kind t) e in
       let long : next ≡ at + total (1 ∷ 1 ∷ ws) = omega arith in

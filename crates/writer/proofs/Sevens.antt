@@ -2,13 +2,12 @@
 use Prim.Native.Nat.{ℕ, zero, suc, _+_, _-_, _*_, _/_, _%_, _^_, _<_, _≤_}
 use mathlib.Core.Path.{_≡_, refl, sym, ap, _∙_}
 use mathlib.Core.List.{List, [], _∷_, _++_}
-use mathlib.Core.Bool.{Bool, true, false, _&&_, and-eq-true-iff}
+use mathlib.Core.Bool.{Bool, true, false, cond, _&&_, and-eq-true-iff}
 use native.Mathlib.Omega.{arith}
 use borrow.Author.Tests.{eqb-true, leb-true, le-leb, lt-leb, lt-ltb, le-ltb, ne-eqb, eq-eqb}
 use lib.Dec.{leb, eqb}
 use lib.ListN.{length, getD, take, drop, length-take, length-append}
 use lib.Seq.{sets, drop-drop}
-use Rattle.frame.specs.Octets.{pick}
 use Rattle.frame.specs.Tlvs.{row, widthsOf, eventLength}
 use Rattle.frame.specs.Frame.{notification}
 use Rattle.frame.specs.declared.Event.{Event}
@@ -20,10 +19,10 @@ use Rattle.writer.proofs.Bools.{never}
 use Rattle.writer.proofs.Lengths.{length-oct, tabled, length-events, events-short, endOf}
 use Rattle.writer.proofs.Stores.{sets-append}
 
--- the test of a pick with false: both hold
-pick-true : (a b : Bool) → pick a b false ≡ true → (a ≡ true) × (b ≡ true)
-pick-true true b h = (refl, h)
-pick-true false b h = never h
+-- the test of a cond with false: both hold
+cond-true : (a b : Bool) → cond a b false ≡ true → (a ≡ true) × (b ≡ true)
+cond-true true b h = (refl, h)
+cond-true false b h = never h
 
 -- what holds of every list of seven numbers and more
 pub by-cells : (P : List ℕ → Type 0) → ((a b c d e f g : ℕ) (x : List ℕ) → P (a ∷ b ∷ c ∷ d ∷ e ∷ f ∷ g ∷ x)) → (vs : List ℕ) → 7 ≤ length vs → P vs
@@ -65,7 +64,7 @@ pub seven-is : (vs : List ℕ) → plainSeven vs ≡ true → Seven vs
 unfolding plainSeven plainEvent
 seven-is vs h =
     let k = getD vs 0 0 in
-    let p = pick-true (eqb (length vs) 7) (plainEvent (eventFrom vs)) h in
+    let p = cond-true (eqb (length vs) 7) (plainEvent (eventFrom vs)) h in
     let q = and-eq-true-iff (between 1 4 k) (fit (row k) (eventValues (eventFrom vs))) .0 (p .1) in
     let r = and-eq-true-iff (leb 1 k) (leb k 4) .0 (q .0) in
     record { long = eqb-true (length vs) 7 (p .0); least = leb-true 1 k (r .0); most = leb-true k 4 (r .1); fits = q .1 }
@@ -114,25 +113,25 @@ plain-take x h =
 pub kind-take : (x : List ℕ) → 7 ≤ length x → getD (take 7 x) 0 0 ≡ eventFrom x .kind
 kind-take x h = ap (λ (e : Event). e .kind) (event-take x h)
 
-pub measured-take : (x : List ℕ) → 7 ≤ length x → measuredSeven (take 7 x) ≡ pick (plainEvent (eventFrom x)) (eventLength (eventFrom x .kind)) 0
+pub measured-take : (x : List ℕ) → 7 ≤ length x → measuredSeven (take 7 x) ≡ cond (plainEvent (eventFrom x)) (eventLength (eventFrom x .kind)) 0
 unfolding measuredSeven
 measured-take x h = rw (plain-take x h, kind-take x h)
 
 -- what is measured of an event that stands before others: nothing where it is not plain, else its length
 module _ (e : Event) (es : List Event) (sum octets : ℕ) where
-  by-plain : (b : Bool) → plainEvent e ≡ b → octets ≡ pick b (eventLength (e .kind)) 0 → (octets ≡ 0 → ⊥) → (plainEvent e ≡ true) × (octets ≡ eventLength (e .kind))
+  by-plain : (b : Bool) → plainEvent e ≡ b → octets ≡ cond b (eventLength (e .kind)) 0 → (octets ≡ 0 → ⊥) → (plainEvent e ≡ true) × (octets ≡ eventLength (e .kind))
   by-plain true p h z = (p, h)
   by-plain false p h z = absurd (z h)
 
-  pub measure-zero : octets ≡ pick (plainEvent e) (eventLength (e .kind)) 0 → octets ≡ 0 → pick (every plainEvent (e ∷ es)) (sum + eventsLength (e ∷ es)) 0 ≡ 0
+  pub measure-zero : octets ≡ cond (plainEvent e) (eventLength (e .kind)) 0 → octets ≡ 0 → cond (every plainEvent (e ∷ es)) (sum + eventsLength (e ∷ es)) 0 ≡ 0
   measure-zero h z = go (plainEvent e) refl h
     where
-      go : (b : Bool) → plainEvent e ≡ b → octets ≡ pick b (eventLength (e .kind)) 0 → pick (every plainEvent (e ∷ es)) (sum + eventsLength (e ∷ es)) 0 ≡ 0
+      go : (b : Bool) → plainEvent e ≡ b → octets ≡ cond b (eventLength (e .kind)) 0 → cond (every plainEvent (e ∷ es)) (sum + eventsLength (e ∷ es)) 0 ≡ 0
       go true p k = absurd (omega (arith, tabled e p .sized))
       go false p k = rw p
 
-  pub measure-more : octets ≡ pick (plainEvent e) (eventLength (e .kind)) 0 → (octets ≡ 0 → ⊥)
-      → (pick (every plainEvent (e ∷ es)) (sum + eventsLength (e ∷ es)) 0 ≡ pick (every plainEvent es) (sum + octets + eventsLength es) 0) × (octets ≤ 50)
+  pub measure-more : octets ≡ cond (plainEvent e) (eventLength (e .kind)) 0 → (octets ≡ 0 → ⊥)
+      → (cond (every plainEvent (e ∷ es)) (sum + eventsLength (e ∷ es)) 0 ≡ cond (every plainEvent es) (sum + octets + eventsLength es) 0) × (octets ≤ 50)
   measure-more h z =
       let p = by-plain (plainEvent e) refl h z in
       let a : sum + (eventLength (e .kind) + eventsLength es) ≡ sum + octets + eventsLength es = omega arith in
@@ -148,7 +147,7 @@ pub events-are : (vs : List ℕ) → length vs % 7 ≡ 0 → eventsOf vs ≡ eve
 unfolding eventsOf
 events-are vs h = rw (eq-eqb (length vs % 7) 0 h)
 
-pub measured-from : (n : ℕ) (vs : List ℕ) → measured (eventsFrom n vs) ≡ pick (between 1 4 n && every plainEvent (eventsFrom n vs)) (eventsLength (eventsFrom n vs)) 0
+pub measured-from : (n : ℕ) (vs : List ℕ) → measured (eventsFrom n vs) ≡ cond (between 1 4 n && every plainEvent (eventsFrom n vs)) (eventsLength (eventsFrom n vs)) 0
 unfolding measured
 measured-from n vs = rw (length-from n vs)
 
@@ -162,7 +161,7 @@ pub measured-is : (es : List Event) (octets : ℕ) → octets ≡ measured es �
 unfolding measured
 measured-is es octets h z = go (plainEvents es) refl h
   where
-    go : (b : Bool) → plainEvents es ≡ b → octets ≡ pick b (eventsLength es) 0 → Measured es octets
+    go : (b : Bool) → plainEvents es ≡ b → octets ≡ cond b (eventsLength es) 0 → Measured es octets
     go true p k =
         let q = and-eq-true-iff (between 1 4 (length es)) (every plainEvent es) .0 p in
         let m = leb-true (length es) 4 (and-eq-true-iff (leb 1 (length es)) (leb (length es) 4) .0 (q .0) .1) in
@@ -173,7 +172,7 @@ pub measured-none : (es : List Event) → 0 ≡ measured es → plainEvents es �
 unfolding measured
 measured-none es h = go es (plainEvents es) refl h
   where
-    go : (xs : List Event) (b : Bool) → plainEvents xs ≡ b → 0 ≡ pick b (eventsLength xs) 0 → plainEvents xs ≡ false
+    go : (xs : List Event) (b : Bool) → plainEvents xs ≡ b → 0 ≡ cond b (eventsLength xs) 0 → plainEvents xs ≡ false
     go xs false p k = p
     go [] true p k = never p
     go (e ∷ xs) true p k =
@@ -183,7 +182,7 @@ measured-none es h = go es (plainEvents es) refl h
 
 -- 1 to 4 events are measured by each of them
 pub measured-in : (vs : List ℕ) → length vs % 7 ≡ 0 → 1 ≤ length vs / 7 → length vs / 7 ≤ 4
-    → measured (eventsOf vs) ≡ pick (every plainEvent (eventsFrom (length vs / 7) vs)) (eventsLength (eventsFrom (length vs / 7) vs)) 0
+    → measured (eventsOf vs) ≡ cond (every plainEvent (eventsFrom (length vs / 7) vs)) (eventsLength (eventsFrom (length vs / 7) vs)) 0
 measured-in vs e a b =
     let n = length vs / 7 in
     ap measured (events-are vs e) ∙ measured-from n vs ∙ simp (le-leb 1 n a, le-leb n 4 b)
@@ -208,7 +207,7 @@ pub eventful : (vs : List ℕ) → plainEvents (eventsOf vs) ≡ true → Eventf
 unfolding eventsOf
 eventful vs h = go (eqb (length vs % 7) 0) refl h
   where
-    go : (b : Bool) → eqb (length vs % 7) 0 ≡ b → plainEvents (pick b (eventsFrom (length vs / 7) vs) []) ≡ true → Eventful vs
+    go : (b : Bool) → eqb (length vs % 7) 0 ≡ b → plainEvents (cond b (eventsFrom (length vs / 7) vs) []) ≡ true → Eventful vs
     go true e p =
         let k = eqb-true (length vs % 7) 0 e in
         let es = eventsFrom (length vs / 7) vs in

@@ -2,11 +2,10 @@
 use Prim.Native.Nat.{ℕ, zero, suc, _/_, _%_}
 use mathlib.Core.Path.{_≡_}
 use mathlib.Core.List.{List, [], _∷_}
-use mathlib.Core.Bool.{Bool, true, false, _&&_}
+use mathlib.Core.Bool.{Bool, true, false, cond, _&&_}
 use lib.ListN.{length, getD, drop}
 use lib.Seq.{sets}
 use lib.Dec.{ltb, eqb}
-use Rattle.frame.specs.Octets.{pick}
 use Rattle.frame.specs.Information.{InformationPart, local, remote}
 use Rattle.frame.specs.Tlvs.{eventLength}
 use Rattle.frame.specs.Events.{eventOf}
@@ -23,11 +22,11 @@ use Rattle.writer.specs.Plain.{plainInformation, plainEvent, plainEvents
 
 -- "The frame writer by itself (10 for what has no plain form) ...: 10, then 9."
 unfoldable pub writes : Message → ℕ → Written
-writes m room = pick (plain m) (pick (ltb room (length (encode m))) (Refused 9) (Wrote (length (encode m)))) (Refused 10)
+writes m room = cond (plain m) (cond (ltb room (length (encode m))) (Refused 9) (Wrote (length (encode m)))) (Refused 10)
 
 -- "A written frame fills the first octets of the output; the others keep their values." A refusal leaves all.
 unfoldable pub written : Message → List ℕ → List ℕ
-written m out = pick (plain m) (pick (ltb (length out) (length (encode m))) out (sets out 0 (encode m))) out
+written m out = cond (plain m) (cond (ltb (length out) (length (encode m))) out (sets out 0 (encode m))) out
 
 -- a writer of m: its answer, and the output after it
 pub record Writing (m : Message) (entry : List ℕ) (answer : Written) (exit : List ℕ) : Type 0 where
@@ -60,7 +59,7 @@ eventFrom vs = eventOf (getD vs 0 0) (drop 1 vs)
 
 -- whether some numbers are an event in plain form
 unfoldable pub plainSeven : List ℕ → Bool
-plainSeven vs = pick (eqb (length vs) 7) (plainEvent (eventFrom vs)) false
+plainSeven vs = cond (eqb (length vs) 7) (plainEvent (eventFrom vs)) false
 
 -- n events, each of seven numbers
 abbrev pub eventsFrom : ℕ → List ℕ → List Event
@@ -69,11 +68,11 @@ eventsFrom (suc n) vs = eventFrom vs ∷ eventsFrom n (drop 7 vs)
 
 -- the events of a list of numbers; one that is no whole number of events says none, and so has no plain form
 unfoldable pub eventsOf : List ℕ → List Event
-eventsOf vs = pick (eqb (length vs % 7) 0) (eventsFrom (length vs / 7) vs) []
+eventsOf vs = cond (eqb (length vs % 7) 0) (eventsFrom (length vs / 7) vs) []
 
 -- the octets that some events take, 0 where they have no plain form
 unfoldable pub measured : List Event → ℕ
-measured es = pick (plainEvents es) (eventsLength es) 0
+measured es = cond (plainEvents es) (eventsLength es) 0
 
 unfoldable pub measuredSeven : List ℕ → ℕ
-measuredSeven vs = pick (plainSeven vs) (eventLength (getD vs 0 0)) 0
+measuredSeven vs = cond (plainSeven vs) (eventLength (getD vs 0 0)) 0

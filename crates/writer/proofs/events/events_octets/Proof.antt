@@ -1,3 +1,4 @@
+use mathlib.Core.Bool.{cond}
 use Prim.Native.Nat.{ℕ, _+_, _-_, _*_, _/_, _≤_}
 use mathlib.Core.Path.{_≡_, refl, sym, ap, _∙_}
 use mathlib.Core.List.{List, [], _∷_}
@@ -6,7 +7,6 @@ use native.Mathlib.Omega.{arith}
 use borrow.Author.Needs.{needs}
 use denote.Ref.{now}
 use lib.ListN.{length, take, drop, length-drop}
-use Rattle.frame.specs.Octets.{pick}
 use Rattle.frame.specs.Tlvs.{eventLength}
 use Rattle.frame.specs.declared.Event.{Event}
 use Rattle.writer.specs.Plain.{every, plainEvent, eventsLength}
@@ -21,8 +21,8 @@ Inv-loop events count sum₀ i₀ sum i =
     × (count ≤ 4)
     × (count * 7 ≤ length events)
     × (sum ≤ i * 50)
-    × (pick (every plainEvent (eventsFrom count events)) (eventsLength (eventsFrom count events)) 0
-    ≡ pick (every plainEvent (eventsFrom (count - i) (drop (i * 7) events))) (sum + eventsLength (eventsFrom (count - i) (drop (i * 7) events))) 0)
+    × (cond (every plainEvent (eventsFrom count events)) (eventsLength (eventsFrom count events)) 0
+    ≡ cond (every plainEvent (eventsFrom (count - i) (drop (i * 7) events))) (sum + eventsLength (eventsFrom (count - i) (drop (i * 7) events))) 0)
 
 abbrev μ-loop : tie.MeasureT-loop
 μ-loop events count sum₀ i₀ sum i = count - i
@@ -32,7 +32,7 @@ left : (c : tie.After-event-octets Inv-loop μ-loop) → List ℕ
 left c = drop (c .before .before .before .loop .i * 7) (now (c .before .before .before .before .before .before .before .before .args .events))
 
 -- what the turn measured
-turn : (c : tie.After-event-octets Inv-loop μ-loop) → c .event-octets .result ≡ pick (plainEvent (eventFrom (left c))) (eventLength (eventFrom (left c) .kind)) 0
+turn : (c : tie.After-event-octets Inv-loop μ-loop) → c .event-octets .result ≡ cond (plainEvent (eventFrom (left c))) (eventLength (eventFrom (left c) .kind)) 0
 unfolding left
 turn c =
     let vs = now (c .before .before .before .before .before .before .before .before .args .events) in
@@ -47,13 +47,13 @@ rest : (c : tie.After-event-octets Inv-loop μ-loop) →
     let n = length vs / 7 in
     let l = c .before .before .before .loop in
     let es = eventsFrom (n - (l .i + 1)) (drop ((l .i + 1) * 7) vs) in
-    pick (every plainEvent (eventsFrom n vs)) (eventsLength (eventsFrom n vs)) 0
-    ≡ pick (every plainEvent (eventFrom (left c) ∷ es)) (l .sum + eventsLength (eventFrom (left c) ∷ es)) 0
+    cond (every plainEvent (eventsFrom n vs)) (eventsLength (eventsFrom n vs)) 0
+    ≡ cond (every plainEvent (eventFrom (left c) ∷ es)) (l .sum + eventsLength (eventFrom (left c) ∷ es)) 0
 unfolding left
 rest c =
     let vs = now (c .before .before .before .before .before .before .before .before .args .events) in
     let l = c .before .before .before .loop in
-    l .inv .4 ∙ ap (λ (es : List Event). pick (every plainEvent es) (l .sum + eventsLength es) 0) (next-event (length vs / 7) (l .i) vs (c .before .before .loop-test .taken))
+    l .inv .4 ∙ ap (λ (es : List Event). cond (every plainEvent es) (l .sum + eventsLength es) 0) (next-event (length vs / 7) (l .i) vs (c .before .before .loop-test .taken))
 
 returns : tie.Need-returns Inv-loop μ-loop
 returns c = none-odd (now (c .before .before .args .events)) (c .if1 .taken)
