@@ -7,7 +7,7 @@ ghost use Rattle.text.specs.Decimal.{decimal, field};
 ghost use Rattle.text.specs.Put.{Put};
 
 // How many digits a number has.
-fn digits(n: u64) -> usize
+pub fn digits(n: u64) -> usize
     ensures { λ r. ⌜ r ≡ length (decimal n) ⌝ }
 {
     let mut count: usize = 1;

@@ -5,5 +5,6 @@
 mod decimal;
 mod words;
 
+pub use decimal::digits;
 pub use decimal::put_decimal;
 pub use words::put_words;

@@ -1,0 +1,4 @@
+-- What the promises of eventlog cite.
+pub mod Digits
+pub mod Line
+pub mod Logging

@@ -1,0 +1,6 @@
+-- What the proofs of several functions use, and what follows from the promises.
+pub mod Written
+pub mod LentNumbers
+pub mod Lengths
+pub mod Moving
+pub mod Taking

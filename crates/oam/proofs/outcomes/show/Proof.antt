@@ -1,0 +1,77 @@
+-- `oam::outcomes::show` meets its contract.
+use Prim.Native.Nat.{ℕ, _+_, _-_, _≤_, _<_}
+use mathlib.Core.Path.{_≡_, refl, sym, ap, _∙_}
+use mathlib.Core.List.{List}
+use native.Mathlib.Nat.{zero-add}
+use native.Mathlib.Omega.{arith}
+use borrow.Author.Needs.{needs}
+use denote.Ref.{now}
+use lib.ListN.{length, getD, set, drop, drop-of-length-le}
+use lib.Seq.{sets}
+use Rattle.writer.proofs.Stores.{next-octet}
+use Rattle.oam.proofs.outcomes.show.Statement.{statement}
+use Rattle.oam.proofs.outcomes.show.Tie as tie
+
+-- a turn of the loop
+next-number : (l : List ℕ) (i : ℕ) (xs : List ℕ) → i < length xs → sets l i (drop i xs) ≡ sets (set l i (getD xs i 0)) (i + 1) (drop (i + 1) xs)
+next-number l i xs h = rw (zero-add i, zero-add (i + 1)) at (next-octet l 0 i xs h)
+
+abbrev Inv-loop : tie.InvT-loop
+Inv-loop lent₀ answer numbers i₀ lent i =
+    (i ≤ length numbers) × (length lent ≡ length lent₀) × (sets lent₀ 0 numbers ≡ sets lent i (drop i numbers))
+
+abbrev μ-loop : tie.MeasureT-loop
+μ-loop lent₀ answer numbers i₀ lent i = length numbers - i
+
+loop-holds : tie.Need-loop-holds Inv-loop μ-loop
+loop-holds c = (omega arith, search needs, refl)
+
+mul-lent : tie.Need-mul-lent Inv-loop μ-loop
+mul-lent c = search needs
+
+shared-slice-read-lent : tie.Need-shared-slice-read-lent Inv-loop μ-loop
+shared-slice-read-lent c = search needs
+
+mul-lent-2 : tie.Need-mul-lent-2 Inv-loop μ-loop
+mul-lent-2 c = search needs
+
+slice-write-lent : tie.Need-slice-write-lent Inv-loop μ-loop
+slice-write-lent c = search needs
+
+add-i : tie.Need-add-i Inv-loop μ-loop
+add-i c = search needs
+
+loop-less : tie.Need-loop-less Inv-loop μ-loop
+loop-less c = search needs
+
+loop-again : tie.Need-loop-again Inv-loop μ-loop
+loop-again c =
+    let l = c .before .before .loop in
+    (omega arith, search needs, l .inv .2 ∙ next-number (l .lent) (l .i) (now (c .before .before .before .args .numbers)) (c .before .loop-test .taken))
+
+same-length : tie.Need-same-length Inv-loop μ-loop
+same-length c = search needs
+
+returns : tie.Need-returns Inv-loop μ-loop
+returns c =
+    let a = c .before .before .args in
+    let l = c .before .loop in
+    let h : length (now (a .numbers)) ≤ l .i = omega arith in
+    record { answers = refl; stored = sym (l .inv .2 ∙ ap (λ (xs : List ℕ). sets (l .lent) (l .i) xs) (drop-of-length-le (now (a .numbers)) h)) }
+
+pub show-spec : {M : Type 1} → statement M
+show-spec =
+    tie.close
+    (tie.spec
+    Inv-loop
+    μ-loop
+    loop-holds
+    mul-lent
+    shared-slice-read-lent
+    mul-lent-2
+    slice-write-lent
+    add-i
+    loop-less
+    loop-again
+    same-length
+    returns)

@@ -1,0 +1,28 @@
+-- `oam::reading::oam_read` meets its contract.
+use mathlib.Core.Path.{refl, sym}
+use borrow.Author.Tests.{lt-ltb, le-ltb}
+use Rattle.oam.specs.Reading.{frameShown}
+use borrow.Author.Needs.{needs}
+use Rattle.oam.proofs.reading.oam_read.Statement.{statement}
+use Rattle.oam.proofs.reading.oam_read.Tie as tie
+
+returns : tie.Need-returns
+unfolding frameShown
+returns c = rw (lt-ltb _ _ (c .if1 .taken)) (record { answers = refl; stored = refl })
+
+read-requires : tie.Need-read-requires
+read-requires c κs = search needs
+
+show-reading-requires : tie.Need-show-reading-requires
+show-reading-requires c κs = search needs
+
+same-length : tie.Need-same-length
+same-length c = search needs
+
+returns-2 : tie.Need-returns-2
+unfolding frameShown
+returns-2 c = rw (le-ltb _ _ (c .before .before .before .before .before .if1 .left), sym (c .before .before .before .read .ensures)) (c .before .before .show-reading .ensures)
+
+pub oam-read-spec : {M : Type 1} → statement M
+oam-read-spec =
+    tie.close (tie.spec returns read-requires show-reading-requires same-length returns-2)

@@ -1,0 +1,69 @@
+// An Information TLV that a caller lends as numbers: its seven fields in order, or none.
+ghost use mathlib.Core.Path.{_≡_};
+ghost use mathlib.Core.Bool.{true};
+ghost use Prim.Native.Nat.{_≤_};
+ghost use lib.ListN.{length};
+ghost use Rattle.writer.specs.Octets.{fit};
+ghost use Rattle.writer.specs.Encode.{informationWidths};
+ghost use Rattle.oam.specs.Lending.{lends, informationFrom, heldFrom};
+use frame::Held;
+use frame::Information;
+
+// The width in octets of each field of an Information TLV: version, revision, state, configuration, OAMPDU
+// configuration, OUI, vendor.
+const WIDTHS: [usize; 7] = [1, 2, 1, 1, 2, 3, 4];
+
+// Whether each of seven numbers is within its field's width.
+fn within_widths(numbers: &[u64]) -> bool
+    requires { ⌜ 7 ≤ length (now numbers) ⌝ }
+    ensures { λ r. ⌜ r ≡ fit informationWidths (now (numbers .entry)) ⌝ }
+{
+    let mut i: usize = 0;
+    while i < 7 {
+        if !writer::fits(numbers[i], WIDTHS[i]) {
+            return false;
+        }
+        i += 1;
+    }
+    true
+}
+
+// Whether some numbers lend an Information TLV or none: seven, each within its field's width, or no number.
+pub(crate) fn is_lent(numbers: &[u64]) -> bool
+    ensures { λ r. ⌜ r ≡ lends (now (numbers .entry)) ⌝ }
+{
+    if numbers.len() == 0 {
+        return true;
+    }
+    if numbers.len() != 7 {
+        return false;
+    }
+    within_widths(numbers)
+}
+
+// The TLV of seven numbers.
+fn information_of(numbers: &[u64]) -> Information
+    requires { ⌜ (7 ≤ length (now numbers)) × (fit informationWidths (now numbers) ≡ true) ⌝ }
+    ensures { λ r. ⌜ r ≡ informationFrom (now (numbers .entry)) ⌝ }
+{
+    Information {
+        version: numbers[0] as u8,
+        revision: numbers[1] as u16,
+        state: numbers[2] as u8,
+        configuration: numbers[3] as u8,
+        oampdu: numbers[4] as u16,
+        oui: numbers[5] as u32,
+        vendor: numbers[6] as u32,
+    }
+}
+
+// The TLV that some numbers lend, if they lend one.
+pub(crate) fn held_of(numbers: &[u64]) -> Held
+    requires { ⌜ lends (now numbers) ≡ true ⌝ }
+    ensures { λ r. ⌜ r ≡ heldFrom (now (numbers .entry)) ⌝ }
+{
+    if numbers.len() == 0 {
+        return Held::Nothing;
+    }
+    Held::Is(information_of(numbers))
+}

@@ -1,0 +1,23 @@
+// The link end's entries for C and Rust: frames written and read, and the lines of the sent-event log.
+//
+// An entry takes numbers and lent slices and trusts none of them. A slice is two arguments to its caller, where it begins and
+// how many elements it has. An entry that writes answers an outcome: one number, the paper's answer in its low 8 bits, 0
+// where it is accepted, and the length that was written above them, of which nothing is cut off (`proofs/Lengths.antt`). A
+// refusal leaves every lent slice as it was. Who takes the parts of a frame in order meets those of the message that it says
+// (`proofs/Taking.antt`).
+mod lending;
+mod logging;
+mod outcomes;
+mod parts;
+mod reading;
+mod writing;
+
+pub use logging::oam_log_read;
+pub use logging::oam_log_write;
+pub use parts::oam_part;
+pub use reading::oam_read;
+pub use writing::oam_write_information;
+pub use writing::oam_write_loopback;
+pub use writing::oam_write_notification;
+pub use writing::oam_write_organization;
+pub use writing::oam_write_request;

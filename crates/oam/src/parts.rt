@@ -1,0 +1,147 @@
+// The entry that shows the parts of a frame's body, one a call, as numbers in a slice that the caller lends.
+ghost use mathlib.Core.List.{[], _∷_};
+ghost use Prim.Native.Nat.{_≤_};
+ghost use lib.ListN.{length};
+ghost use Rattle.frame.specs.Information.{informationStep};
+ghost use Rattle.frame.specs.Events.{eventStep};
+ghost use Rattle.frame.specs.Variables.{descriptorStep, containerStep};
+ghost use Rattle.writer.specs.Encode.{informationValues, eventValues};
+ghost use Rattle.oam.specs.Outcomes.{shows, Showing};
+ghost use Rattle.oam.specs.Parts.{informationShown, eventShown, descriptorShown, containerShown, partShown};
+use crate::outcomes::show;
+use frame::ContainerStep;
+use frame::DescriptorStep;
+use frame::Event;
+use frame::EventStep;
+use frame::Information;
+use frame::InformationStep;
+use frame::Reading;
+
+// A skipped part: only the octet after it is shown.
+fn show_next(lent: &mut [u64], next: usize) -> u64
+    requires { ⌜ 8 ≤ length (now lent) ⌝ }
+    ensures { λ r. ⌜ Showing (shows 3 (next ∷ [])) (now (lent .entry)) r (now (lent .exit)) ⌝ }
+{
+    let numbers: [u64; 1] = [next as u64];
+    show(lent, 3, &numbers)
+}
+
+// The fields of an Information TLV.
+fn show_fields(lent: &mut [u64], answer: u64, i: Information, next: usize) -> u64
+    requires { ⌜ 8 ≤ length (now lent) ⌝ }
+    ensures { λ r. ⌜ Showing (shows answer (next ∷ informationValues i)) (now (lent .entry)) r (now (lent .exit)) ⌝ }
+{
+    let numbers: [u64; 8] = [
+        next as u64,
+        i.version as u64,
+        i.revision as u64,
+        i.state as u64,
+        i.configuration as u64,
+        i.oampdu as u64,
+        i.oui as u64,
+        i.vendor as u64,
+    ];
+    show(lent, answer, &numbers)
+}
+
+// What stands at an octet of an Information frame.
+fn show_information(lent: &mut [u64], frame: &[u8], at: usize) -> u64
+    requires { ⌜ 8 ≤ length (now lent) ⌝ }
+    ensures { λ r. ⌜ Showing (informationShown (informationStep (now (frame .entry)) at)) (now (lent .entry)) r (now (lent .exit)) ⌝ }
+{
+    match frame::information_step(frame, at) {
+        InformationStep::End => 1,
+        InformationStep::Broken => 2,
+        InformationStep::Skip(next) => show_next(lent, next),
+        InformationStep::Local(i, next) => show_fields(lent, 4, i, next),
+        InformationStep::Remote(i, next) => show_fields(lent, 5, i, next),
+    }
+}
+
+// The type and the values of an event.
+fn show_values(lent: &mut [u64], e: Event, next: usize) -> u64
+    requires { ⌜ 8 ≤ length (now lent) ⌝ }
+    ensures { λ r. ⌜ Showing (shows 6 (next ∷ e .kind ∷ eventValues e)) (now (lent .entry)) r (now (lent .exit)) ⌝ }
+{
+    let numbers: [u64; 8] = [
+        next as u64,
+        e.kind as u64,
+        e.timestamp,
+        e.window,
+        e.threshold,
+        e.errors,
+        e.error_total,
+        e.event_total,
+    ];
+    show(lent, 6, &numbers)
+}
+
+// What stands at an octet of an Event Notification frame.
+fn show_event(lent: &mut [u64], frame: &[u8], at: usize) -> u64
+    requires { ⌜ 8 ≤ length (now lent) ⌝ }
+    ensures { λ r. ⌜ Showing (eventShown (eventStep (now (frame .entry)) at)) (now (lent .entry)) r (now (lent .exit)) ⌝ }
+{
+    match frame::event_step(frame, at) {
+        EventStep::End => 1,
+        EventStep::Broken => 2,
+        EventStep::Skip(next) => show_next(lent, next),
+        EventStep::Has(e, next) => show_values(lent, e, next),
+    }
+}
+
+// What stands at an octet of a Variable Request frame.
+fn show_descriptor(lent: &mut [u64], frame: &[u8], at: usize) -> u64
+    requires { ⌜ 8 ≤ length (now lent) ⌝ }
+    ensures { λ r. ⌜ Showing (descriptorShown (descriptorStep (now (frame .entry)) at)) (now (lent .entry)) r (now (lent .exit)) ⌝ }
+{
+    match frame::descriptor_step(frame, at) {
+        DescriptorStep::End => 1,
+        DescriptorStep::Broken => 2,
+        DescriptorStep::Has(descriptor, next) => {
+            let numbers: [u64; 2] = [next as u64, descriptor as u64];
+            show(lent, 7, &numbers)
+        }
+    }
+}
+
+// What stands at an octet of a Variable Response frame.
+fn show_container(lent: &mut [u64], frame: &[u8], at: usize) -> u64
+    requires { ⌜ 8 ≤ length (now lent) ⌝ }
+    ensures { λ r. ⌜ Showing (containerShown (containerStep (now (frame .entry)) at)) (now (lent .entry)) r (now (lent .exit)) ⌝ }
+{
+    match frame::container_step(frame, at) {
+        ContainerStep::End => 1,
+        ContainerStep::Broken => 2,
+        ContainerStep::Value(descriptor, width, next) => {
+            let start = next - width;
+            let numbers: [u64; 4] = [next as u64, descriptor as u64, start as u64, width as u64];
+            show(lent, 8, &numbers)
+        }
+        ContainerStep::Indication(descriptor, octet, next) => {
+            let numbers: [u64; 3] = [next as u64, descriptor as u64, octet as u64];
+            show(lent, 9, &numbers)
+        }
+    }
+}
+
+// Shows what stands at an octet of a frame, and answers its kind: 1 the end, 2 broken, 3 skipped, 4 a Local TLV, 5 a Remote
+// TLV, 6 an event, 7 a descriptor, 8 a container with a value, 9 one with an indication; 0 for a frame that is refused or
+// whose code has no parts, and for a part slice shorter than 10. The octet after it is stored first, then its numbers. The
+// parts of a frame begin at octet 18, or at 20 where its code is 01.
+#[no_mangle]
+pub extern "C" fn oam_part(frame: &[u8], at: usize, part: &mut [u64]) -> u64
+    ensures { λ r. ⌜ Showing (partShown (now (frame .entry)) at (length (now (part .entry)))) (now (part .entry)) r (now (part .exit)) ⌝ }
+{
+    if part.len() < 10 {
+        return 0;
+    }
+    match frame::read(frame) {
+        Reading::Refused(_) => 0,
+        Reading::Information(_, _) => show_information(part, frame, at),
+        Reading::Notification(_, _) => show_event(part, frame, at),
+        Reading::Request(_) => show_descriptor(part, frame, at),
+        Reading::Response(_) => show_container(part, frame, at),
+        Reading::Loopback(_, _) => 0,
+        Reading::Organization(_, _) => 0,
+    }
+}

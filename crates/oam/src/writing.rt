@@ -1,0 +1,85 @@
+// The entries that write frames.
+ghost use mathlib.Core.Bool.{true, _&&_};
+ghost use Rattle.frame.specs.Frame.{information, notification, request, loopback, organization};
+ghost use Rattle.writer.specs.Writing.{messageOf, eventsOf, partsFrom};
+ghost use Rattle.oam.specs.Lending.{lends, heldFrom};
+ghost use Rattle.oam.specs.Writing.{Outcome};
+use crate::lending::held_of;
+use crate::lending::is_lent;
+use crate::outcomes::outcome;
+use frame::Found;
+
+// Writes an Information frame. A TLV is lent as its seven fields in order, or as no number where there is none; numbers
+// that are neither are 10.
+#[no_mangle]
+pub extern "C" fn oam_write_information(
+    source: u64,
+    flags: u16,
+    local: &[u64],
+    remote: &[u64],
+    out: &mut [u8],
+) -> u64
+    ensures { λ r. ⌜ Outcome (lends (now (local .entry)) && lends (now (remote .entry))) (messageOf source flags (information (partsFrom (heldFrom (now (local .entry))) (heldFrom (now (remote .entry)))))) (now (out .entry)) r (now (out .exit)) ⌝ }
+{
+    if !is_lent(local) {
+        return 10;
+    }
+    if !is_lent(remote) {
+        return 10;
+    }
+    let found = Found {
+        local: held_of(local),
+        remote: held_of(remote),
+    };
+    outcome(writer::write_information(source, flags, found, out))
+}
+
+// Writes an Event Notification frame with its number and 1 to 4 events, each lent as seven numbers: its type and its six
+// values.
+#[no_mangle]
+pub extern "C" fn oam_write_notification(
+    source: u64,
+    flags: u16,
+    number: u16,
+    events: &[u64],
+    out: &mut [u8],
+) -> u64
+    ensures { λ r. ⌜ Outcome true (messageOf source flags (notification number (eventsOf (now (events .entry))))) (now (out .entry)) r (now (out .exit)) ⌝ }
+{
+    outcome(writer::write_notification(source, flags, number, events, out))
+}
+
+// Writes a Variable Request frame. A descriptor is one number, the branch above the leaf's sixteen bits.
+#[no_mangle]
+pub extern "C" fn oam_write_request(
+    source: u64,
+    flags: u16,
+    descriptors: &[u32],
+    out: &mut [u8],
+) -> u64
+    ensures { λ r. ⌜ Outcome true (messageOf source flags (request (now (descriptors .entry)))) (now (out .entry)) r (now (out .exit)) ⌝ }
+{
+    outcome(writer::write_request(source, flags, descriptors, out))
+}
+
+// Writes a Loopback Control frame.
+#[no_mangle]
+pub extern "C" fn oam_write_loopback(source: u64, flags: u16, command: u8, out: &mut [u8]) -> u64
+    ensures { λ r. ⌜ Outcome true (messageOf source flags (loopback command)) (now (out .entry)) r (now (out .exit)) ⌝ }
+{
+    outcome(writer::write_loopback(source, flags, command, out))
+}
+
+// Writes an organization specific frame: the OUI and the organization's data.
+#[no_mangle]
+pub extern "C" fn oam_write_organization(
+    source: u64,
+    flags: u16,
+    oui: u32,
+    octets: &[u8],
+    out: &mut [u8],
+) -> u64
+    ensures { λ r. ⌜ Outcome true (messageOf source flags (organization oui (now (octets .entry)))) (now (out .entry)) r (now (out .exit)) ⌝ }
+{
+    outcome(writer::write_organization(source, flags, oui, octets, out))
+}
