@@ -1,8 +1,8 @@
 -- What an entry gives back: its outcome, and the numbers that it stores in a lent slice.
-use mathlib.Core.Bool.{cond}
 use Prim.Native.Nat.{ℕ, _*_, _%_, _^_}
 use mathlib.Core.Path.{_≡_}
 use mathlib.Core.List.{List, []}
+use mathlib.Core.Bool.{cond}
 use lib.Seq.{sets}
 use lib.Dec.{ltb}
 use Rattle.writer.specs.declared.Written.{Written}

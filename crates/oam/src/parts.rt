@@ -59,19 +59,19 @@ fn show_information(lent: &mut [u64], frame: &[u8], at: usize) -> u64
 }
 
 // The type and the values of an event.
-fn show_values(lent: &mut [u64], e: Event, next: usize) -> u64
+fn show_values(lent: &mut [u64], event: Event, next: usize) -> u64
     requires { ⌜ 8 ≤ length (now lent) ⌝ }
-    ensures { λ r. ⌜ Showing (shows 6 (next ∷ e .kind ∷ eventValues e)) (now (lent .entry)) r (now (lent .exit)) ⌝ }
+    ensures { λ r. ⌜ Showing (shows 6 (next ∷ event .kind ∷ eventValues event)) (now (lent .entry)) r (now (lent .exit)) ⌝ }
 {
     let numbers: [u64; 8] = [
         next as u64,
-        e.kind as u64,
-        e.timestamp,
-        e.window,
-        e.threshold,
-        e.errors,
-        e.error_total,
-        e.event_total,
+        event.kind as u64,
+        event.timestamp,
+        event.window,
+        event.threshold,
+        event.errors,
+        event.error_total,
+        event.event_total,
     ];
     show(lent, 6, &numbers)
 }
@@ -85,7 +85,7 @@ fn show_event(lent: &mut [u64], frame: &[u8], at: usize) -> u64
         EventStep::End => 1,
         EventStep::Broken => 2,
         EventStep::Skip(next) => show_next(lent, next),
-        EventStep::Has(e, next) => show_values(lent, e, next),
+        EventStep::Has(event, next) => show_values(lent, event, next),
     }
 }
 

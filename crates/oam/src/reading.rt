@@ -8,11 +8,16 @@ use frame::Header;
 use frame::Reading;
 
 // The header and the body's fixed number.
-fn show_header(lent: &mut [u64], h: Header, number: u64) -> u64
+fn show_header(lent: &mut [u64], header: Header, number: u64) -> u64
     requires { ⌜ 4 ≤ length (now lent) ⌝ }
-    ensures { λ r. ⌜ Showing (headerShown h number) (now (lent .entry)) r (now (lent .exit)) ⌝ }
+    ensures { λ r. ⌜ Showing (headerShown header number) (now (lent .entry)) r (now (lent .exit)) ⌝ }
 {
-    let numbers: [u64; 4] = [h.source, h.flags as u64, h.code as u64, number];
+    let numbers: [u64; 4] = [
+        header.source,
+        header.flags as u64,
+        header.code as u64,
+        number,
+    ];
     show(lent, 0, &numbers)
 }
 
@@ -23,12 +28,12 @@ fn show_reading(lent: &mut [u64], reading: Reading) -> u64
 {
     match reading {
         Reading::Refused(answer) => answer as u64,
-        Reading::Information(h, _) => show_header(lent, h, 0),
-        Reading::Notification(h, number) => show_header(lent, h, number as u64),
-        Reading::Request(h) => show_header(lent, h, 0),
-        Reading::Response(h) => show_header(lent, h, 0),
-        Reading::Loopback(h, command) => show_header(lent, h, command as u64),
-        Reading::Organization(h, oui) => show_header(lent, h, oui as u64),
+        Reading::Information(header, _) => show_header(lent, header, 0),
+        Reading::Notification(header, number) => show_header(lent, header, number as u64),
+        Reading::Request(header) => show_header(lent, header, 0),
+        Reading::Response(header) => show_header(lent, header, 0),
+        Reading::Loopback(header, command) => show_header(lent, header, command as u64),
+        Reading::Organization(header, oui) => show_header(lent, header, oui as u64),
     }
 }
 

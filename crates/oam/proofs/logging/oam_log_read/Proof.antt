@@ -1,14 +1,15 @@
 -- `oam::logging::oam_log_read` meets its contract.
-use mathlib.Core.Path.{refl, sym, _∙_}
+use mathlib.Core.Path.{sym, _∙_}
 use borrow.Author.Tests.{lt-ltb, le-ltb}
 use Rattle.oam.specs.Logging.{textShown}
+use Rattle.oam.proofs.Written.{untouched}
 use borrow.Author.Needs.{needs}
 use Rattle.oam.proofs.logging.oam_log_read.Statement.{statement}
 use Rattle.oam.proofs.logging.oam_log_read.Tie as tie
 
 returns : tie.Need-returns
 unfolding textShown
-returns c = rw (lt-ltb _ _ (c .if1 .taken)) (record { answers = refl; stored = refl })
+returns c = rw (lt-ltb _ _ (c .if1 .taken)) untouched
 
 read-line-requires : tie.Need-read-line-requires
 read-line-requires c κs = search needs
@@ -27,7 +28,7 @@ show-line-requires c κs = search needs
 
 returns-2 : tie.Need-returns-2
 unfolding textShown
-returns-2 c = rw (le-ltb _ _ (c .before .before .before .before .if1 .left), sym (c .before .before .before .read-line .ensures) ∙ c .before .answer .given .1) (record { answers = refl; stored = refl })
+returns-2 c = rw (le-ltb _ _ (c .before .before .before .before .if1 .left), sym (c .before .before .before .read-line .ensures) ∙ c .before .answer .given .1) untouched
 
 same-length : tie.Need-same-length
 same-length c = search needs

@@ -1,14 +1,15 @@
 -- `oam::parts::oam_part` meets its contract.
-use mathlib.Core.Path.{refl, sym, _∙_}
+use mathlib.Core.Path.{sym, _∙_}
 use borrow.Author.Tests.{lt-ltb, le-ltb}
 use Rattle.oam.specs.Parts.{partShown}
+use Rattle.oam.proofs.Written.{untouched}
 use borrow.Author.Needs.{needs}
 use Rattle.oam.proofs.parts.oam_part.Statement.{statement}
 use Rattle.oam.proofs.parts.oam_part.Tie as tie
 
 returns : tie.Need-returns
 unfolding partShown
-returns c = rw (lt-ltb _ _ (c .if1 .taken)) (record { answers = refl; stored = refl })
+returns c = rw (lt-ltb _ _ (c .if1 .taken)) untouched
 
 read-requires : tie.Need-read-requires
 read-requires c κs = search needs
@@ -48,7 +49,7 @@ enum-told-7 c = search needs
 
 returns-2 : tie.Need-returns-2
 unfolding partShown
-returns-2 c = rw (le-ltb _ _ (c .before .before .before .if1 .left), sym (c .before .before .read .ensures) ∙ c .enum-told .given .1) (record { answers = refl; stored = refl })
+returns-2 c = rw (le-ltb _ _ (c .before .before .before .if1 .left), sym (c .before .before .read .ensures) ∙ c .enum-told .given .1) untouched
 
 same-length : tie.Need-same-length
 same-length c = search needs
@@ -80,11 +81,11 @@ returns-6 c = rw (le-ltb _ _ (c .before .before .before .before .before .before 
 
 returns-7 : tie.Need-returns-7
 unfolding partShown
-returns-7 c = rw (le-ltb _ _ (c .before .before .before .if1 .left), sym (c .before .before .read .ensures) ∙ c .enum-told6 .given .1) (record { answers = refl; stored = refl })
+returns-7 c = rw (le-ltb _ _ (c .before .before .before .if1 .left), sym (c .before .before .read .ensures) ∙ c .enum-told6 .given .1) untouched
 
 returns-8 : tie.Need-returns-8
 unfolding partShown
-returns-8 c = rw (le-ltb _ _ (c .before .before .before .if1 .left), sym (c .before .before .read .ensures) ∙ c .enum-told7 .given .1) (record { answers = refl; stored = refl })
+returns-8 c = rw (le-ltb _ _ (c .before .before .before .if1 .left), sym (c .before .before .read .ensures) ∙ c .enum-told7 .given .1) untouched
 
 pub oam-part-spec : {M : Type 1} → statement M
 oam-part-spec =

@@ -1,9 +1,10 @@
 -- `oam::parts::show_container` meets its contract.
-use mathlib.Core.Path.{refl, sym, _∙_, subst}
+use mathlib.Core.Path.{sym, _∙_, subst}
 use native.Mathlib.Omega.{arith}
 use denote.Ref.{now}
 use lib.ListN.{length}
 use Rattle.frame.proofs.Wholes.{Contained, container-within}
+use Rattle.oam.proofs.Written.{untouched}
 use borrow.Author.Needs.{needs}
 use Rattle.oam.proofs.parts.show_container.Statement.{statement}
 use Rattle.oam.proofs.parts.show_container.Tie as tie
@@ -48,10 +49,10 @@ show-requires-2 : tie.Need-show-requires-2
 show-requires-2 c κs = search needs
 
 returns : tie.Need-returns
-returns c = rw (sym (c .before .before .container-step .ensures) ∙ c .enum-told .given .1) (record { answers = refl; stored = refl })
+returns c = rw (sym (c .before .before .container-step .ensures) ∙ c .enum-told .given .1) untouched
 
 returns-2 : tie.Need-returns-2
-returns-2 c = rw (sym (c .before .before .container-step .ensures) ∙ c .enum-told2 .given .1) (record { answers = refl; stored = refl })
+returns-2 c = rw (sym (c .before .before .container-step .ensures) ∙ c .enum-told2 .given .1) untouched
 
 same-length : tie.Need-same-length
 same-length c = search needs

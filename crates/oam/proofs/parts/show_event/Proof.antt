@@ -1,5 +1,6 @@
 -- `oam::parts::show_event` meets its contract.
-use mathlib.Core.Path.{refl, sym, _∙_}
+use mathlib.Core.Path.{sym, _∙_}
+use Rattle.oam.proofs.Written.{untouched}
 use borrow.Author.Needs.{needs}
 use Rattle.oam.proofs.parts.show_event.Statement.{statement}
 use Rattle.oam.proofs.parts.show_event.Tie as tie
@@ -19,17 +20,17 @@ enum-known-next c = search needs
 show-next-requires : tie.Need-show-next-requires
 show-next-requires c κs = search needs
 
-enum-known-e : tie.Need-enum-known-e
-enum-known-e c = search needs
+enum-known-event : tie.Need-enum-known-event
+enum-known-event c = search needs
 
 show-values-requires : tie.Need-show-values-requires
 show-values-requires c κs = search needs
 
 returns : tie.Need-returns
-returns c = rw (sym (c .before .before .event-step .ensures) ∙ c .enum-told .given .1) (record { answers = refl; stored = refl })
+returns c = rw (sym (c .before .before .event-step .ensures) ∙ c .enum-told .given .1) untouched
 
 returns-2 : tie.Need-returns-2
-returns-2 c = rw (sym (c .before .before .event-step .ensures) ∙ c .enum-told2 .given .1) (record { answers = refl; stored = refl })
+returns-2 c = rw (sym (c .before .before .event-step .ensures) ∙ c .enum-told2 .given .1) untouched
 
 same-length : tie.Need-same-length
 same-length c = search needs
@@ -41,7 +42,7 @@ same-length-2 : tie.Need-same-length-2
 same-length-2 c = search needs
 
 returns-4 : tie.Need-returns-4
-returns-4 c = rw (sym (c .before .before .before .before .before .before .before .event-step .ensures) ∙ c .before .before .before .before .before .e .given .1) (c .before .before .show-values .ensures)
+returns-4 c = rw (sym (c .before .before .before .before .before .before .before .event-step .ensures) ∙ c .before .before .before .before .before .event .given .1) (c .before .before .show-values .ensures)
 
 pub show-event-spec : {M : Type 1} → statement M
 show-event-spec =
@@ -52,7 +53,7 @@ show-event-spec =
     enum-told-2
     enum-known-next
     show-next-requires
-    enum-known-e
+    enum-known-event
     show-values-requires
     returns
     returns-2

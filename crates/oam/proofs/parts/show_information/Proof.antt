@@ -1,5 +1,6 @@
 -- `oam::parts::show_information` meets its contract.
-use mathlib.Core.Path.{refl, sym, _∙_}
+use mathlib.Core.Path.{sym, _∙_}
+use Rattle.oam.proofs.Written.{untouched}
 use borrow.Author.Needs.{needs}
 use Rattle.oam.proofs.parts.show_information.Statement.{statement}
 use Rattle.oam.proofs.parts.show_information.Tie as tie
@@ -32,10 +33,10 @@ show-fields-requires-2 : tie.Need-show-fields-requires-2
 show-fields-requires-2 c κs = search needs
 
 returns : tie.Need-returns
-returns c = rw (sym (c .before .before .information-step .ensures) ∙ c .enum-told .given .1) (record { answers = refl; stored = refl })
+returns c = rw (sym (c .before .before .information-step .ensures) ∙ c .enum-told .given .1) untouched
 
 returns-2 : tie.Need-returns-2
-returns-2 c = rw (sym (c .before .before .information-step .ensures) ∙ c .enum-told2 .given .1) (record { answers = refl; stored = refl })
+returns-2 c = rw (sym (c .before .before .information-step .ensures) ∙ c .enum-told2 .given .1) untouched
 
 same-length : tie.Need-same-length
 same-length c = search needs

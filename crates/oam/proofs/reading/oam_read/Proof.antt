@@ -1,14 +1,15 @@
 -- `oam::reading::oam_read` meets its contract.
-use mathlib.Core.Path.{refl, sym}
+use mathlib.Core.Path.{sym}
 use borrow.Author.Tests.{lt-ltb, le-ltb}
 use Rattle.oam.specs.Reading.{frameShown}
+use Rattle.oam.proofs.Written.{untouched}
 use borrow.Author.Needs.{needs}
 use Rattle.oam.proofs.reading.oam_read.Statement.{statement}
 use Rattle.oam.proofs.reading.oam_read.Tie as tie
 
 returns : tie.Need-returns
 unfolding frameShown
-returns c = rw (lt-ltb _ _ (c .if1 .taken)) (record { answers = refl; stored = refl })
+returns c = rw (lt-ltb _ _ (c .if1 .taken)) untouched
 
 read-requires : tie.Need-read-requires
 read-requires c κs = search needs
