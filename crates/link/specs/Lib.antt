@@ -1,0 +1,5 @@
+pub mod State
+pub mod Sending
+pub mod Ticks
+pub mod Hearing
+pub mod Reports
