@@ -111,21 +111,11 @@ pub fn any_log_line(random: &mut Random) -> LogLine {
 /// The nine values of a good line.
 fn good_fields(random: &mut Random) -> [u64; log::FIELDS] {
     let kind = random.octet_between(1, 4);
-    let [kind, timestamp, window, threshold, errors, error_total, event_total] =
-        event(random, kind).numbers();
-    let number = random.value(2);
-    let position = random.between(1, PLAIN_EVENTS) as u64;
-    [
-        number,
-        position,
-        kind,
-        timestamp,
-        window,
-        threshold,
-        errors,
-        error_total,
-        event_total,
-    ]
+    let mut fields = [0; log::FIELDS];
+    fields[2..].copy_from_slice(&event(random, kind).numbers());
+    fields[0] = random.value(2);
+    fields[1] = random.between(1, PLAIN_EVENTS) as u64;
+    fields
 }
 
 fn line_of(fields: impl IntoIterator<Item = String>) -> Vec<u8> {

@@ -98,6 +98,7 @@ impl Descriptor {
 
 #[cfg(test)]
 mod tests {
+    use super::super::tests::local;
     use super::*;
 
     #[test]
@@ -124,17 +125,8 @@ mod tests {
     #[test]
     fn fields_are_the_papers_numbers_in_its_order() {
         let numbers = [1, 42, 5, 0x1D, 1518, 0x00_1B21, 0xDEAD_BEEF];
-        let fields = Information {
-            version: 1,
-            revision: 42,
-            state: 5,
-            configuration: 0x1D,
-            pdu_configuration: 1518,
-            oui: [0x00, 0x1B, 0x21],
-            vendor: [0xDE, 0xAD, 0xBE, 0xEF],
-        };
-        assert_eq!(fields.numbers(), numbers);
-        assert_eq!(Information::from_numbers(&numbers), Some(fields));
+        assert_eq!(local().numbers(), numbers);
+        assert_eq!(Information::from_numbers(&numbers), Some(local()));
         for field in 0..NUMBERS {
             let mut beyond = numbers;
             beyond[field] = 1 << [8, 16, 8, 8, 16, 24, 32][field];

@@ -38,7 +38,8 @@ pub(super) const REMOTE: &str = "02 10 01 ffff 02 0f 0040 a0b1c2 01020304";
 const SKIPPED: &str = "7e 2a 1111111111111111 1111111111111111 1111111111111111 \
                        1111111111111111 1111111111111111";
 
-fn local() -> Information {
+/// The fields of `LOCAL`.
+pub(super) fn local() -> Information {
     Information {
         version: 1,
         revision: 42,
