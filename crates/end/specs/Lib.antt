@@ -2,6 +2,8 @@ pub mod Bits
 pub mod Roles
 pub mod Ranges
 pub mod Peers
+pub mod Loopback
+pub mod Asking
 pub mod Standing
 pub mod Moves
 pub mod Sending

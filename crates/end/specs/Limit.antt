@@ -1,11 +1,15 @@
 -- The limit on frames: "ten frames already written in this timer second" is 13.
 use Prim.Native.Nat.{ℕ, _+_}
-use mathlib.Core.Bool.{Bool, true, false, cond}
+use mathlib.Core.Bool.{Bool, true, false, cond, _&&_}
 use lib.Dec.{ltb, leb}
 use Rattle.end.specs.declared.Meter.{Meter}
 
 abbrev pub newMeter : Meter
 newMeter = record { ticks = 0; written = 0 }
+
+-- the numbers that a meter comes to: a second has ten ticks and at most ten frames
+unfoldable pub bounded : Meter → Bool
+bounded m = ltb (m .ticks) 10 && leb (m .written) 10
 
 -- one frame more may be written
 unfoldable pub room : Meter → Bool

@@ -1,8 +1,9 @@
--- What a peer record says, and HOUSE, satisfied.
+-- What is kept of a received frame, what a peer record says, and HOUSE, satisfied.
 use Prim.Native.Nat.{ℕ, _%_}
-use mathlib.Core.Bool.{Bool, true, false, _&&_, _||_}
+use mathlib.Core.Bool.{Bool, true, false, cond, _&&_, _||_}
 use lib.Bits.{bitAnd}
 use lib.Dec.{leb, eqb}
+use Rattle.frame.specs.Flags.{flagsOf}
 use Rattle.frame.specs.declared.Information.{Information}
 use Rattle.frame.specs.declared.Held.{Held}
 use Rattle.frame.specs.declared.Held.the-variants.{Nothing, Is}
@@ -45,3 +46,12 @@ peerLoopback (Is i) = bit 2 (i .configuration)
 unfoldable pub peerMaximum : Held → ℕ
 peerMaximum Nothing = 0
 peerMaximum (Is i) = maximumOf i
+
+-- "kept field from the flags": "a received 3 keeps the last value"
+unfoldable pub keptFrom : ℕ → ℕ → ℕ
+keptFrom flags kept = cond (eqb (flagsOf flags .local) 3) kept (flagsOf flags .local)
+
+-- "peer record from any Local TLV"
+abbrev pub recordFrom : Held → Held → Held
+recordFrom Nothing peer = peer
+recordFrom (Is i) peer = Is i

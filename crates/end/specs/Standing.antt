@@ -1,5 +1,7 @@
 -- Where discovery stands once no move applies (`Moves` lists the moves, and proofs/Resting.antt shows that they come to rest here).
+use Prim.Native.Nat.{ℕ}
 use mathlib.Core.Bool.{Bool, true, false, cond}
+use lib.Dec.{leb}
 use Rattle.end.specs.declared.Discovery.{Discovery}
 use Rattle.end.specs.declared.Discovery.the-variants.{Fault, ActiveSendLocal, PassiveWait, SendLocalRemote, SendLocalRemoteOk, SendAny}
 use Rattle.end.specs.declared.Role.{Role}
@@ -29,3 +31,7 @@ roleIn PassiveWait role = Idle
 roleIn SendLocalRemote role = Idle
 roleIn SendLocalRemoteOk role = Idle
 roleIn SendAny role = role
+
+-- "A tick with the link up adds 1 to the lost-link count; 50 enters FAULT and clears it.": the count before that tick
+abbrev pub isLost : ℕ → Bool
+isLost lost = leb 49 lost

@@ -2,8 +2,10 @@
 //
 // The parts are cut by who changes them, so that what a call does not touch stays as it is by computation. Every function
 // is total on any values; which values an end can have is shown of the calls, in `link`.
+mod asking;
 mod bits;
 mod limit;
+mod loopback;
 mod owing;
 mod peers;
 mod ranges;
@@ -11,6 +13,8 @@ mod roles;
 mod sending;
 mod standing;
 
+pub use asking::fits_both;
+pub use asking::request_answer;
 pub use bits::is_active;
 pub use bits::is_loopback;
 pub use bits::is_unidirectional;
@@ -19,15 +23,23 @@ pub use limit::closes;
 pub use limit::has_room;
 pub use limit::new_meter;
 pub use limit::turned;
+pub use loopback::answer;
+pub use loopback::is_obeyed;
+pub use loopback::may_start;
+pub use loopback::may_stop;
+pub use loopback::role_after_command;
 pub use owing::is_owed;
 pub use owing::next_number;
 pub use owing::next_revision;
+pub use peers::either;
 pub use peers::is_held;
 pub use peers::is_peer_active;
 pub use peers::is_peer_loopback;
 pub use peers::is_satisfied;
+pub use peers::kept_from;
 pub use peers::maximum;
 pub use peers::peer_maximum;
+pub use peers::record_from;
 pub use ranges::is_sound;
 pub use sending::allowed_in;
 pub use sending::cleared;
@@ -36,6 +48,7 @@ pub use sending::local_field;
 pub use sending::own_information;
 pub use sending::remote_field;
 pub use standing::is_any;
+pub use standing::is_lost;
 pub use standing::role_in;
 pub use standing::stands;
 

@@ -1,7 +1,7 @@
-// What a peer record says, and whether an end is satisfied by it.
+// What is kept of a received frame, what a peer record says, and whether an end is satisfied by it.
 ghost use mathlib.Core.Path.{_≡_};
 ghost use mathlib.Core.Bool.{_&&_, _||_};
-ghost use Rattle.end.specs.Peers.{maximumOf, hasAll, satisfies, satisfied, held, peerActive, peerLoopback, peerMaximum};
+ghost use Rattle.end.specs.Peers.{maximumOf, hasAll, satisfies, satisfied, held, peerActive, peerLoopback, peerMaximum, keptFrom, recordFrom};
 use crate::Settings;
 use crate::bits::is_active;
 use crate::bits::is_loopback;
@@ -21,10 +21,16 @@ fn has_all(required: u8, configuration: u8) -> bool
     required & configuration == required
 }
 
-fn either(a: bool, b: bool) -> bool
+pub fn either(a: bool, b: bool) -> bool
     ensures { λ r. ⌜ r ≡ (a || b) ⌝ }
 {
     if a { true } else { b }
+}
+
+pub(crate) fn all_three(a: bool, b: bool, c: bool) -> bool
+    ensures { λ r. ⌜ r ≡ (a && (b && c)) ⌝ }
+{
+    if a { if b { c } else { false } } else { false }
 }
 
 fn all_four(a: bool, b: bool, c: bool, d: bool) -> bool
@@ -94,5 +100,26 @@ pub fn peer_maximum(peer: Held) -> u16
     match peer {
         Held::Nothing => 0,
         Held::Is(i) => maximum(i),
+    }
+}
+
+// The kept field after flags: a received 3 keeps the last value.
+pub fn kept_from(flags: u16, kept: u16) -> u16
+    ensures { λ r. ⌜ r ≡ keptFrom flags kept ⌝ }
+{
+    let parts = frame::split_flags(flags);
+    if parts.local == 3 {
+        return kept;
+    }
+    parts.local
+}
+
+// The peer record after a frame with or without a Local TLV.
+pub fn record_from(local: Held, peer: Held) -> Held
+    ensures { λ r. ⌜ r ≡ recordFrom local peer ⌝ }
+{
+    match local {
+        Held::Nothing => peer,
+        Held::Is(i) => Held::Is(i),
     }
 }

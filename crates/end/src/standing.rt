@@ -1,7 +1,7 @@
-// Where discovery stands once no move applies, and the role there.
+// Where discovery stands once no move applies, the role there, and when silence has lost the link.
 ghost use mathlib.Core.Path.{_≡_};
 ghost use mathlib.Core.Bool.{true};
-ghost use Rattle.end.specs.Standing.{standsAt, isAny, roleIn};
+ghost use Rattle.end.specs.Standing.{standsAt, isAny, roleIn, isLost};
 use crate::Discovery;
 use crate::Role;
 
@@ -61,4 +61,11 @@ pub fn role_in(discovery: Discovery, role: Role) -> Role
         Discovery::SendLocalRemoteOk => Role::Idle,
         Discovery::SendAny => role,
     }
+}
+
+// Whether one tick more in silence makes the lost-link count 50.
+pub fn is_lost(lost: u8) -> bool
+    ensures { λ r. ⌜ r ≡ isLost lost ⌝ }
+{
+    49 <= lost
 }

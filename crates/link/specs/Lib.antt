@@ -3,3 +3,5 @@ pub mod Sending
 pub mod Ticks
 pub mod Hearing
 pub mod Reports
+pub mod Requests
+pub mod Ranges

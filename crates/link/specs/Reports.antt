@@ -2,7 +2,6 @@
 use Prim.Native.Nat.{ℕ}
 use mathlib.Core.List.{List}
 use mathlib.Core.Bool.{Bool, true, false, cond}
-use lib.Dec.{ltb}
 use lib.ListN.{length}
 use Rattle.link.specs.declared.Own.{Own}
 use Rattle.link.specs.declared.End.{End}
@@ -11,7 +10,7 @@ use Rattle.link.specs.declared.Report.the-variants.{LinkUp, LinkDown, Dy
 use Rattle.link.specs.declared.Shown.the-variants.{Nothing}
 use Rattle.link.specs.declared.Outcome.{Outcome}
 use Rattle.link.specs.State.{withLink, withOwn, faulted, settled}
-use Rattle.link.specs.Sending.{dues, outcome, concluded, concludedOutput}
+use Rattle.link.specs.Sending.{tooShort, dues, outcome, concluded, concludedOutput}
 
 -- "FAULT: entered on link down or on the lost-link count." "A link-up report after link down clears it too; a report that repeats
 -- what already stands changes none of these."
@@ -40,7 +39,7 @@ unfoldable pub reportedDue : Report → End → End
 reportedDue r e = dues e false (reported r e)
 
 unfoldable pub reportOf : Report → ℕ → End → Outcome
-reportOf r octets e = cond (ltb octets 60) (outcome e 9 0 Nothing) (concluded octets Nothing (reportedDue r e))
+reportOf r octets e = cond (tooShort octets) (outcome e 9 0 Nothing) (concluded octets Nothing (reportedDue r e))
 
 unfoldable pub reportOutput : Report → End → List ℕ → List ℕ
-reportOutput r e out = cond (ltb (length out) 60) out (concludedOutput (reportedDue r e) out)
+reportOutput r e out = cond (tooShort (length out)) out (concludedOutput (reportedDue r e) out)

@@ -2,7 +2,7 @@
 use Prim.Native.Nat.{ℕ, _+_}
 use mathlib.Core.List.{List}
 use mathlib.Core.Bool.{Bool, true, false, cond, not, _&&_, _||_}
-use lib.Dec.{eqb}
+use lib.Dec.{ltb, eqb}
 use lib.ListN.{length}
 use Rattle.frame.specs.Flags.{joined}
 use Rattle.frame.specs.Frame.{Message, information}
@@ -92,6 +92,10 @@ lengthOf (Wrote n) = n
 -- an outcome: the next end, the answer, the written length, its State octet, what is shown
 abbrev pub outcome : End → ℕ → ℕ → Shown → Outcome
 outcome e answer n shown = record { end = e; answer = answer; length = n; state = octetOf (e .role); shown = shown }
+
+-- "Receive, tick and report test 9 first, against 60 octets."
+abbrev pub tooShort : ℕ → Bool
+tooShort octets = ltb octets 60
 
 -- how tick, receive and report end, for an output of some octets: the owed frame is written where it may be
 unfoldable pub concluded : ℕ → Shown → End → Outcome

@@ -1,8 +1,7 @@
 // A received frame: what is kept of it, the moves, and the body's action.
 ghost use mathlib.Core.Path.{_≡_};
-ghost use mathlib.Core.Bool.{_&&_};
 ghost use lib.ListN.{length};
-ghost use Rattle.link.specs.Hearing.{heardOf, saidBy, keptFrom, recordFrom, learned, answering, answered, takes, isLooping, obeys, commanded, roleAfterCommand, roleAfter, lastAfter, obeyed, acted, isRepeat, shownEvents, shownOf, takenUp, taken, concludedHeard, concludedHeardOutput, receiveOf, receiveOutput};
+ghost use Rattle.link.specs.Hearing.{heardOf, saidBy, learned, obeysCommand, roleAfter, lastAfter, obeyed, acted, isRepeat, shownEvents, shownOf, takenUp, taken, concludedHeard, concludedHeardOutput, receiveOf, receiveOutput};
 use crate::End;
 use crate::Last;
 use crate::Link;
@@ -10,6 +9,7 @@ use crate::Outcome;
 use crate::Peer;
 use crate::Shown;
 use crate::sending::conclude;
+use crate::sending::is_short;
 use crate::sending::note;
 use crate::sending::outcome;
 use crate::state::in_any;
@@ -74,26 +74,6 @@ fn said_by(reading: Reading) -> Said
     }
 }
 
-// The kept field after flags: a received 3 keeps the last value.
-fn kept_from(flags: u16, kept: u16) -> u16
-    ensures { λ r. ⌜ r ≡ keptFrom flags kept ⌝ }
-{
-    let parts = frame::split_flags(flags);
-    if parts.local == 3 {
-        return kept;
-    }
-    parts.local
-}
-
-fn record_from(local: Held, peer: Held) -> Held
-    ensures { λ r. ⌜ r ≡ recordFrom local peer ⌝ }
-{
-    match local {
-        Held::Nothing => peer,
-        Held::Is(i) => Held::Is(i),
-    }
-}
-
 // The lost-link count, the kept field, the peer record, and the moves.
 fn learn(m: Heard, e: End) -> End
     ensures { λ r. ⌜ r ≡ learned m e ⌝ }
@@ -104,8 +84,8 @@ fn learn(m: Heard, e: End) -> End
     let peer = e.peer;
     let held = peer.held;
     let next = Peer {
-        kept: kept_from(header.flags, peer.kept),
-        held: record_from(local, held),
+        kept: end::kept_from(header.flags, peer.kept),
+        held: end::record_from(local, held),
         ..peer
     };
     settle(End {
@@ -115,106 +95,14 @@ fn learn(m: Heard, e: End) -> End
     })
 }
 
-fn answering(role: Role, looping: bool, forward: bool) -> Role
-    ensures { λ r. ⌜ r ≡ answering role looping forward ⌝ }
+// The role after the body's action, by whether it was a command that is obeyed.
+fn role_after(local: Held, action: Action, obeyed: bool, role: Role) -> Role
+    ensures { λ r. ⌜ r ≡ roleAfter local action obeyed role ⌝ }
 {
-    match role {
-        Role::Idle => role,
-        Role::Asking => if looping { Role::Holding } else { role },
-        Role::Holding => role,
-        Role::Ending => if forward { Role::Idle } else { role },
-        Role::Looping => role,
-    }
-}
-
-// The role after a Local TLV with parser and multiplexer actions.
-fn answer(local: Held, role: Role) -> Role
-    ensures { λ r. ⌜ r ≡ answered local role ⌝ }
-{
-    match local {
-        Held::Nothing => role,
-        Held::Is(i) => answering(role, i.state % 8 == 5, i.state % 8 == 0),
-    }
-}
-
-fn takes(role: Role, higher: bool) -> bool
-    ensures { λ r. ⌜ r ≡ takes role higher ⌝ }
-{
-    match role {
-        Role::Idle => true,
-        Role::Asking => higher,
-        Role::Holding => false,
-        Role::Ending => false,
-        Role::Looping => true,
-    }
-}
-
-fn is_looping(role: Role) -> bool
-    ensures { λ r. ⌜ r ≡ isLooping role ⌝ }
-{
-    match role {
-        Role::Idle => false,
-        Role::Asking => false,
-        Role::Holding => false,
-        Role::Ending => false,
-        Role::Looping => true,
-    }
-}
-
-fn all_three(a: bool, b: bool, c: bool) -> bool
-    ensures { λ r. ⌜ r ≡ (a && (b && c)) ⌝ }
-{
-    if a { if b { c } else { false } } else { false }
-}
-
-// Whether a loopback command is obeyed.
-fn is_obeyed(command: u8, source: u64, e: End) -> bool
-    ensures { λ r. ⌜ r ≡ obeys command source e ⌝ }
-{
-    let settings = e.settings;
-    let peer = e.peer;
-    let held = peer.held;
-    let role = e.role;
-    if command == 1 {
-        return all_three(
-            end::is_loopback(settings.configuration),
-            end::is_peer_active(held),
-            takes(role, source < settings.source),
-        );
-    }
-    is_looping(role)
-}
-
-fn commanded_role(command: u8) -> Role
-    ensures { λ r. ⌜ r ≡ commanded command ⌝ }
-{
-    if command == 1 {
-        Role::Looping
-    } else {
-        Role::Idle
-    }
-}
-
-fn role_after_command(command: u8, source: u64, e: End) -> Role
-    ensures { λ r. ⌜ r ≡ roleAfterCommand command source e ⌝ }
-{
-    let role = e.role;
-    if is_obeyed(command, source, e) {
-        return commanded_role(command);
-    }
-    role
-}
-
-fn role_after(m: Heard, action: Action, e: End) -> Role
-    ensures { λ r. ⌜ r ≡ roleAfter m action e ⌝ }
-{
-    let header = m.header;
-    let local = m.local;
-    let role = e.role;
     match action {
-        Action::Inform => answer(local, role),
+        Action::Inform => end::answer(local, role),
         Action::Notify(_) => role,
-        Action::Command(command) => role_after_command(command, header.source, e),
+        Action::Command(command) => end::role_after_command(command, obeyed, role),
         Action::Other => role,
     }
 }
@@ -230,26 +118,44 @@ fn last_after(action: Action, last: Last) -> Last
     }
 }
 
-fn is_due(m: Heard, action: Action, e: End) -> bool
-    ensures { λ r. ⌜ r ≡ obeyed m action e ⌝ }
+fn is_command_obeyed(command: u8, source: u64, e: End) -> bool
+    ensures { λ r. ⌜ r ≡ obeysCommand command source e ⌝ }
 {
-    let header = m.header;
+    let settings = e.settings;
+    let peer = e.peer;
+    let held = peer.held;
+    let role = e.role;
+    end::is_obeyed(
+        command,
+        source < settings.source,
+        settings.configuration,
+        held,
+        role,
+    )
+}
+
+// Whether the body is a loopback command that is obeyed.
+fn is_obeyed(source: u64, action: Action, e: End) -> bool
+    ensures { λ r. ⌜ r ≡ obeyed source action e ⌝ }
+{
     match action {
         Action::Inform => false,
         Action::Notify(_) => false,
-        Action::Command(command) => is_obeyed(command, header.source, e),
+        Action::Command(command) => is_command_obeyed(command, source, e),
         Action::Other => false,
     }
 }
 
 // The body's action.
-fn act(m: Heard, e: End) -> End
-    ensures { λ r. ⌜ r ≡ acted m e ⌝ }
+fn act(m: Heard, obeyed: bool, e: End) -> End
+    ensures { λ r. ⌜ r ≡ acted m obeyed e ⌝ }
 {
     let action = m.action;
+    let local = m.local;
+    let was = e.role;
     let peer = e.peer;
     let last = peer.last;
-    let role = role_after(m, action, e);
+    let role = role_after(local, action, obeyed, was);
     let next = Peer {
         last: last_after(action, last),
         ..peer
@@ -279,10 +185,9 @@ fn show_events(header: Header, n: u16, last: Last) -> Shown
     Shown::Events(header, n)
 }
 
-fn show(m: Heard, action: Action, last: Last) -> Shown
-    ensures { λ r. ⌜ r ≡ shownOf m action last ⌝ }
+fn show(header: Header, action: Action, last: Last) -> Shown
+    ensures { λ r. ⌜ r ≡ shownOf header action last ⌝ }
 {
-    let header = m.header;
     match action {
         Action::Inform => Shown::Frame(header),
         Action::Notify(n) => show_events(header, n, last),
@@ -301,10 +206,11 @@ fn take_up(m: Heard, e: End) -> Taken
     let last = peer.last;
     let next = learn(m, e);
     if in_any(next) {
+        let obeyed = is_obeyed(header.source, action, next);
         return Taken {
-            end: act(m, next),
-            due: is_due(m, action, next),
-            shown: show(m, action, last),
+            end: act(m, obeyed, next),
+            due: obeyed,
+            shown: show(header, action, last),
         };
     }
     Taken {
@@ -342,7 +248,7 @@ fn conclude_heard(m: Heard, e: End, out: &mut [u8]) -> Outcome
 pub fn receive(e: End, frame: &[u8], out: &mut [u8]) -> Outcome
     ensures { λ r. ⌜ (r ≡ receiveOf (now (frame .entry)) (length (now (out .entry))) e) × (now (out .exit) ≡ receiveOutput (now (frame .entry)) e (now (out .entry))) ⌝ }
 {
-    if out.len() < 60 {
+    if is_short(out.len()) {
         return outcome(e, 9, 0, Shown::Nothing);
     }
     match said_by(frame::read(frame)) {

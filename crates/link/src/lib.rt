@@ -5,6 +5,7 @@
 // actions, and what is shown. A refusal gives the same end and leaves the output as it was.
 mod hearing;
 mod reporting;
+mod requesting;
 mod sending;
 mod state;
 mod ticking;
@@ -16,6 +17,11 @@ use frame::Header;
 use frame::Held;
 pub use hearing::receive;
 pub use reporting::take_report;
+pub use requesting::notify;
+pub use requesting::request_variables;
+pub use requesting::send_organization;
+pub use requesting::start;
+pub use requesting::stop;
 pub use state::fresh;
 pub use ticking::tick;
 

@@ -9,6 +9,7 @@ use crate::Own;
 use crate::Report;
 use crate::Shown;
 use crate::sending::conclude;
+use crate::sending::is_short;
 use crate::sending::note;
 use crate::sending::outcome;
 use crate::state::fault;
@@ -84,7 +85,7 @@ fn take_due(e: End, report: Report) -> End
 pub fn take_report(e: End, report: Report, out: &mut [u8]) -> Outcome
     ensures { λ r. ⌜ (r ≡ reportOf report (length (now (out .entry))) e) × (now (out .exit) ≡ reportOutput report e (now (out .entry))) ⌝ }
 {
-    if out.len() < 60 {
+    if is_short(out.len()) {
         return outcome(e, 9, 0, Shown::Nothing);
     }
     conclude(take_due(e, report), Shown::Nothing, out)

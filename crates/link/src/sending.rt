@@ -1,8 +1,7 @@
 // What every call ends with: the revision, what is owed, and the Information frame that is written.
 ghost use mathlib.Core.Path.{_≡_};
-ghost use mathlib.Core.Bool.{_||_};
 ghost use lib.ListN.{length};
-ghost use Rattle.link.specs.Sending.{faultOf, flagsToSend, allowed, tlvsToSend, octetChanged, changed, dues, sends, sent, lengthOf, outcome, concluded, concludedOutput};
+ghost use Rattle.link.specs.Sending.{faultOf, flagsToSend, allowed, tlvsToSend, octetChanged, changed, dues, sends, sent, lengthOf, outcome, tooShort, concluded, concludedOutput};
 use crate::End;
 use crate::Outcome;
 use crate::Own;
@@ -71,12 +70,6 @@ fn octet_changed(before: Role, after: Role) -> bool
     before.octet() != after.octet()
 }
 
-fn either(a: bool, b: bool) -> bool
-    ensures { λ r. ⌜ r ≡ (a || b) ⌝ }
-{
-    if a { true } else { b }
-}
-
 // The revision, and what is owed, after a call that made an end of another.
 pub(crate) fn note(before: End, due: bool, e: End) -> End
     ensures { λ r. ⌜ r ≡ dues before due e ⌝ }
@@ -85,7 +78,7 @@ pub(crate) fn note(before: End, due: bool, e: End) -> End
     let was = before.role;
     let is = e.role;
     let octet = octet_changed(was, is);
-    let told = either(octet, flags(before) != flags(e));
+    let told = end::either(octet, flags(before) != flags(e));
     let next = Own {
         revision: end::next_revision(octet, own.revision),
         owed: end::is_owed(is_allowed(e), own.owed, due, told),
@@ -127,6 +120,13 @@ pub(crate) fn outcome(e: End, answer: u8, length: usize, shown: Shown) -> Outcom
         state: role.octet(),
         shown: shown,
     }
+}
+
+// Whether an output is too short for a tick, a receive or a report.
+pub(crate) fn is_short(octets: usize) -> bool
+    ensures { λ r. ⌜ r ≡ tooShort octets ⌝ }
+{
+    octets < 60
 }
 
 fn is_sending(e: End) -> bool

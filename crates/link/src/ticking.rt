@@ -7,6 +7,7 @@ use crate::Link;
 use crate::Outcome;
 use crate::Shown;
 use crate::sending::conclude;
+use crate::sending::is_short;
 use crate::sending::note;
 use crate::sending::outcome;
 use crate::state::fault;
@@ -18,7 +19,7 @@ fn miss(e: End) -> End
 {
     let link = e.link;
     if link.up {
-        if 49 <= link.lost {
+        if end::is_lost(link.lost) {
             let cleared = fault(e);
             return End {
                 link: Link { up: true, lost: 0 },
@@ -58,7 +59,7 @@ fn turn_due(e: End) -> End
 pub fn tick(e: End, out: &mut [u8]) -> Outcome
     ensures { λ r. ⌜ (r ≡ tickOf (length (now (out .entry))) e) × (now (out .exit) ≡ tickOutput e (now (out .entry))) ⌝ }
 {
-    if out.len() < 60 {
+    if is_short(out.len()) {
         return outcome(e, 9, 0, Shown::Nothing);
     }
     conclude(turn_due(e), Shown::Nothing, out)

@@ -2,7 +2,7 @@
 use Prim.Native.Nat.{ℕ, zero, suc, _+_, _-_, _≤_, max}
 use mathlib.Core.Path.{_≡_, refl, sym, ap}
 use mathlib.Core.List.{List, [], _∷_, _++_}
-use mathlib.Core.Bool.{true}
+use mathlib.Core.Bool.{true, false}
 use native.Mathlib.Omega.{arith}
 use borrow.Author.Tests.{leb-true, eqb-true, eq-eqb}
 use lib.ListN.{length, drop, replicate, length-append}
@@ -11,7 +11,7 @@ use lib.Dec.{leb, eqb}
 use Rattle.frame.specs.Frame.{Body, information, notification, request, response, loopback, organization, Message}
 use Rattle.writer.specs.Octets.{oct}
 use Rattle.writer.specs.Encode.{partOctets, eventOctets, joined, bodyOctets, padded, encode}
-use Rattle.writer.specs.Plain.{every, plainEvent, plainBody, plain, bodyLength, zeros, shortest}
+use Rattle.writer.specs.Plain.{every, plainEvent, plainBody, plain, bodyLength, sized, zeros, shortest}
 use Rattle.writer.proofs.Bools.{never, and-l, and-r}
 use Rattle.writer.proofs.Lengths.{length-oct, length-joined, length-part, length-events, events-short, length-padded, length-encode}
 use Rattle.writer.proofs.Informing.{plain-parts}
@@ -40,6 +40,16 @@ plain-sized (loopback n) h = record { long = refl; short = omega arith }
 plain-sized (organization oui x) h =
     let few : leb (length x) 1493 ≡ true = search and-r in
     record { long = omega (arith, length-append (oct 3 oui) x, length-oct 3 oui); short = omega (arith, leb-true (length x) 1493 few) }
+
+-- the octets of a body's frame, by whether it has a plain form
+module _ (b : Body) where
+  pub sized-plain : (octets : ℕ) → plainBody b ≡ true → octets ≡ max 60 (18 + bodyLength b) → octets ≡ sized b
+  unfolding sized
+  sized-plain octets h e = rw h e
+
+  pub sized-none : plainBody b ≡ false → 0 ≡ sized b
+  unfolding sized
+  sized-none h = rw h
 
 -- a message in plain form has a body in plain form
 pub plain-body : (m : Message) → plain m ≡ true → plainBody (m .body) ≡ true

@@ -1,7 +1,7 @@
 -- The plain form: of a message, and of a frame by its octets.
 use Prim.Native.Nat.{ℕ, _+_, _*_, _^_, max}
 use mathlib.Core.List.{List, [], _∷_}
-use mathlib.Core.Bool.{Bool, true, false, not, _&&_, _||_}
+use mathlib.Core.Bool.{Bool, true, false, cond, not, _&&_, _||_}
 use lib.ListN.{length, drop}
 use lib.Dec.{ltb, leb, eqb}
 use Rattle.frame.specs.Flags.{flagsOf}
@@ -105,6 +105,10 @@ bodyLength (request ds) = 3 * length ds
 bodyLength (response cs) = 0
 bodyLength (loopback n) = 1
 bodyLength (organization oui x) = 3 + length x
+
+-- the octets of a body's frame, 0 where it has no plain form
+unfoldable pub sized : Body → ℕ
+sized b = cond (plainBody b) (max 60 (18 + bodyLength b)) 0
 
 -- no TLV of the body was skipped
 abbrev pub allKnown : List ℕ → Body → Bool

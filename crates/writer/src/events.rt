@@ -7,7 +7,7 @@ ghost use lib.Seq.{sets};
 ghost use Rattle.frame.specs.Tlvs.{eventLength};
 ghost use Rattle.frame.specs.Frame.{notification};
 ghost use Rattle.writer.specs.Encode.{eventOctets, joined};
-ghost use Rattle.writer.specs.Plain.{plainEvents, eventsLength};
+ghost use Rattle.writer.specs.Plain.{plainEvents, eventsLength, sized};
 ghost use Rattle.writer.specs.Writing.{Writing, messageOf, eventFrom, plainSeven, eventsOf, measured, measuredSeven};
 use crate::Written;
 use crate::header::at_least_60;
@@ -72,6 +72,17 @@ fn events_octets(events: &[u64]) -> usize
         i += 1;
     }
     sum
+}
+
+// The octets of a notification's frame, 0 where it has no plain form.
+pub fn notification_octets(number: u16, events: &[u64]) -> usize
+    ensures { λ r. ⌜ r ≡ sized (notification number (eventsOf (now (events .entry)))) ⌝ }
+{
+    let octets = events_octets(events);
+    if octets == 0 {
+        return 0;
+    }
+    at_least_60(20 + octets)
 }
 
 // Stores an event's TLV from octet at, and answers its length.

@@ -9,11 +9,14 @@ mod octets;
 mod requests;
 mod small;
 
+pub use events::notification_octets;
 pub use events::plain_event;
 pub use events::write_notification;
 pub use local_remote::write_information;
 pub use octets::fits;
+pub use requests::request_octets;
 pub use requests::write_request;
+pub use small::organization_octets;
 pub use small::write_loopback;
 pub use small::write_organization;
 

@@ -6,7 +6,7 @@ ghost use lib.Seq.{sets};
 ghost use Rattle.frame.specs.Frame.{request};
 ghost use Rattle.writer.specs.Octets.{oct};
 ghost use Rattle.writer.specs.Encode.{joined};
-ghost use Rattle.writer.specs.Plain.{plainDescriptor, plainDescriptors};
+ghost use Rattle.writer.specs.Plain.{plainDescriptor, plainDescriptors, sized};
 ghost use Rattle.writer.specs.Writing.{Writing, messageOf};
 use crate::Written;
 use crate::header::at_least_60;
@@ -42,6 +42,16 @@ fn plain_descriptors(descriptors: &[u32]) -> bool
         i += 1;
     }
     true
+}
+
+// The octets of a Variable Request's frame, 0 where it has no plain form.
+pub fn request_octets(descriptors: &[u32]) -> usize
+    ensures { λ r. ⌜ r ≡ sized (request (now (descriptors .entry))) ⌝ }
+{
+    if plain_descriptors(descriptors) {
+        return at_least_60(18 + 3 * descriptors.len());
+    }
+    0
 }
 
 // Stores descriptors one after another from octet 18.

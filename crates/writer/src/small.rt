@@ -3,7 +3,7 @@ ghost use mathlib.Core.Path.{_≡_};
 ghost use mathlib.Core.Bool.{_||_};
 ghost use lib.Dec.{eqb};
 ghost use Rattle.frame.specs.Frame.{loopback, organization};
-ghost use Rattle.writer.specs.Plain.{plainOrganization};
+ghost use Rattle.writer.specs.Plain.{plainOrganization, sized};
 ghost use Rattle.writer.specs.Writing.{Writing, messageOf};
 use crate::Written;
 use crate::header::finish;
@@ -49,6 +49,16 @@ fn plain_organization(oui: u32, octets: usize) -> bool
         return false;
     }
     octets <= 1493
+}
+
+// The octets of an organization specific frame, 0 where it has no plain form.
+pub fn organization_octets(oui: u32, octets: &[u8]) -> usize
+    ensures { λ r. ⌜ r ≡ sized (organization oui (now (octets .entry))) ⌝ }
+{
+    if plain_organization(oui, octets.len()) {
+        return 21 + octets.len();
+    }
+    0
 }
 
 // Writes an organization specific frame: the OUI and the organization's data.

@@ -3,37 +3,30 @@ use Rattle.end.specs.Ranges.{sound}
 use Rattle.end.proofs.ranges.is_sound.Statement.{statement}
 use Rattle.end.proofs.ranges.is_sound.Tie as tie
 
--- src/ranges.rt:11:9
 returns : tie.Need-returns
 unfolding sound
 returns c = simp (le-ltb _ _ (c .if1 .taken))
 
--- src/ranges.rt:14:9
 returns-2 : tie.Need-returns-2
 unfolding sound
 returns-2 c = simp (lt-leb _ _ (c .if2 .taken), lt-ltb _ _ (c .before .before .if1 .left))
 
--- src/ranges.rt:17:9
 returns-3 : tie.Need-returns-3
 unfolding sound
 returns-3 c = simp (lt-leb _ _ (c .if3 .taken), le-leb _ _ (c .before .before .if2 .left), lt-ltb _ _ (c .before .before .before .before .if1 .left))
 
--- src/ranges.rt:20:9
 returns-4 : tie.Need-returns-4
 unfolding sound
 returns-4 c = simp (le-ltb _ _ (c .if4 .taken), le-leb _ _ (c .before .before .if3 .left), le-leb _ _ (c .before .before .before .before .if2 .left), lt-ltb _ _ (c .before .before .before .before .before .before .if1 .left))
 
--- src/ranges.rt:23:9
 returns-5 : tie.Need-returns-5
 unfolding sound
 returns-5 c = simp (le-ltb _ _ (c .if5 .taken), lt-ltb _ _ (c .before .before .if4 .left), le-leb _ _ (c .before .before .before .before .if3 .left), le-leb _ _ (c .before .before .before .before .before .before .if2 .left), lt-ltb _ _ (c .before .before .before .before .before .before .before .before .if1 .left))
 
--- src/ranges.rt:26:9
 returns-6 : tie.Need-returns-6
 unfolding sound
 returns-6 c = simp (le-ltb _ _ (c .if6 .taken), lt-ltb _ _ (c .before .before .if5 .left), lt-ltb _ _ (c .before .before .before .before .if4 .left), le-leb _ _ (c .before .before .before .before .before .before .if3 .left), le-leb _ _ (c .before .before .before .before .before .before .before .before .if2 .left), lt-ltb _ _ (c .before .before .before .before .before .before .before .before .before .before .if1 .left))
 
--- src/ranges.rt:7:1
 returns-7 : tie.Need-returns-7
 unfolding sound
 returns-7 c = simp (lt-ltb _ _ (c .before .if6 .left), lt-ltb _ _ (c .before .before .before .if5 .left), lt-ltb _ _ (c .before .before .before .before .before .if4 .left), le-leb _ _ (c .before .before .before .before .before .before .before .if3 .left), le-leb _ _ (c .before .before .before .before .before .before .before .before .before .if2 .left), lt-ltb _ _ (c .before .before .before .before .before .before .before .before .before .before .before .if1 .left))

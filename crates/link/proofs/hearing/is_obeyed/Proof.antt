@@ -1,40 +1,49 @@
-use borrow.Author.Tests.{eq-eqb, ne-eqb}
 use borrow.Author.Needs.{needs}
-use Rattle.link.specs.Hearing.{obeys}
+use Rattle.link.specs.Hearing.{obeyed}
 use Rattle.link.proofs.hearing.is_obeyed.Statement.{statement}
 use Rattle.link.proofs.hearing.is_obeyed.Tie as tie
 
-is-loopback-requires : tie.Need-is-loopback-requires
-is-loopback-requires c κs = search needs
+enum-told : tie.Need-enum-told
+enum-told c = search needs
 
-is-peer-active-requires : tie.Need-is-peer-active-requires
-is-peer-active-requires c κs = search needs
+enum-told-2 : tie.Need-enum-told-2
+enum-told-2 c = search needs
 
-takes-requires : tie.Need-takes-requires
-takes-requires c κs = search needs
+enum-known-action : tie.Need-enum-known-action
+enum-known-action c = search needs
 
-all-three-requires : tie.Need-all-three-requires
-all-three-requires c κs = search needs
+is-command-obeyed-requires : tie.Need-is-command-obeyed-requires
+is-command-obeyed-requires c κs = search needs
+
+enum-told-3 : tie.Need-enum-told-3
+enum-told-3 c = search needs
 
 returns : tie.Need-returns
-unfolding obeys
-returns c = simp (c .all-three .ensures, c .before .takes .ensures, c .before .before .before .is-peer-active .ensures, c .before .before .before .before .is-loopback .ensures, eq-eqb _ _ (c .before .before .before .before .before .if1 .taken))
-
-is-looping-requires : tie.Need-is-looping-requires
-is-looping-requires c κs = search needs
+unfolding obeyed
+returns c = simp (c .enum-told .given .1)
 
 returns-2 : tie.Need-returns-2
-unfolding obeys
-returns-2 c = simp (c .is-looping .ensures, ne-eqb _ _ (c .before .if1 .left))
+unfolding obeyed
+returns-2 c = simp (c .enum-told2 .given .1)
+
+returns-3 : tie.Need-returns-3
+unfolding obeyed
+returns-3 c = simp (c .is-command-obeyed .ensures, c .before .before .action .given .1)
+
+returns-4 : tie.Need-returns-4
+unfolding obeyed
+returns-4 c = simp (c .enum-told3 .given .1)
 
 pub is-obeyed-spec : {M : Type 1} → statement M
 is-obeyed-spec =
     tie.close
     (tie.spec
-    is-loopback-requires
-    is-peer-active-requires
-    takes-requires
-    all-three-requires
+    enum-told
+    enum-told-2
+    enum-known-action
+    is-command-obeyed-requires
+    enum-told-3
     returns
-    is-looping-requires
-    returns-2)
+    returns-2
+    returns-3
+    returns-4)

@@ -1,16 +1,18 @@
 use mathlib.Core.Path.{sym, ap, _∙_}
-use borrow.Author.Tests.{lt-ltb, le-ltb}
 use Rattle.link.specs.Hearing.{saidBy, receiveOf, receiveOutput}
 use borrow.Author.Needs.{needs}
 use Rattle.link.proofs.hearing.receive.Statement.{statement}
 use Rattle.link.proofs.hearing.receive.Tie as tie
+
+is-short-requires : tie.Need-is-short-requires
+is-short-requires c κs = search needs
 
 outcome-requires : tie.Need-outcome-requires
 outcome-requires c κs = search needs
 
 returns : tie.Need-returns
 unfolding receiveOf receiveOutput
-returns c = let short = lt-ltb _ _ (c .before .if1 .taken) in
+returns c = let short = sym (c .before .before .is-short .ensures) ∙ c .before .if1 .taken in
     (rw short (c .outcome .ensures), rw short)
 
 read-requires : tie.Need-read-requires
@@ -33,7 +35,7 @@ conclude-heard-requires c κs = search needs
 
 returns-2 : tie.Need-returns-2
 unfolding receiveOf receiveOutput
-returns-2 c = let long = le-ltb _ _ (c .before .before .before .before .before .before .if1 .left) in
+returns-2 c = let long = sym (c .before .before .before .before .before .before .before .is-short .ensures) ∙ c .before .before .before .before .before .before .if1 .left in
     let said = sym (c .before .before .before .before .said-by .ensures ∙ ap saidBy (c .before .before .before .before .before .read .ensures)) ∙ c .before .before .answer .given .1 in
     (rw (long, said) (c .outcome2 .ensures), rw (long, said))
 
@@ -42,7 +44,7 @@ same-length c = search needs
 
 returns-3 : tie.Need-returns-3
 unfolding receiveOf receiveOutput
-returns-3 c = let long = le-ltb _ _ (c .before .before .before .before .before .before .before .before .before .if1 .left) in
+returns-3 c = let long = sym (c .before .before .before .before .before .before .before .before .before .before .is-short .ensures) ∙ c .before .before .before .before .before .before .before .before .before .if1 .left in
     let said = sym (c .before .before .before .before .before .before .before .said-by .ensures ∙ ap saidBy (c .before .before .before .before .before .before .before .before .read .ensures)) ∙ c .before .before .before .before .before .m .given .1 in
     (rw (long, said) (c .before .before .conclude-heard .ensures .0), rw (long, said) (c .before .before .conclude-heard .ensures .1))
 
@@ -50,6 +52,7 @@ pub receive-spec : {M : Type 1} → statement M
 receive-spec =
     tie.close
     (tie.spec
+    is-short-requires
     outcome-requires
     returns
     read-requires

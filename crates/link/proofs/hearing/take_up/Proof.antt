@@ -12,11 +12,11 @@ learn-requires c κs = search needs
 in-any-requires : tie.Need-in-any-requires
 in-any-requires c κs = search needs
 
+is-obeyed-requires : tie.Need-is-obeyed-requires
+is-obeyed-requires c κs = search needs
+
 act-requires : tie.Need-act-requires
 act-requires c κs = search needs
-
-is-due-requires : tie.Need-is-due-requires
-is-due-requires c κs = search needs
 
 show-requires : tie.Need-show-requires
 show-requires c κs = search needs
@@ -26,7 +26,7 @@ unfolding takenUp
 returns c = let a = c .before .before .before .before .before .before .before .before .args in
     let l = c .before .before .before .before .before .learn .ensures in
     let any : inAny (learned (a .m) (a .e)) ≡ true = sym (ap inAny l) ∙ sym (c .before .before .before .before .in-any .ensures) ∙ c .before .before .before .if1 .taken in
-    rw any (simp (c .show .ensures, c .before .is-due .ensures, c .before .before .act .ensures, l))
+    rw any (simp (c .show .ensures, c .before .act .ensures, c .before .before .is-obeyed .ensures, l))
 
 returns-2 : tie.Need-returns-2
 unfolding takenUp
@@ -41,8 +41,8 @@ take-up-spec =
     (tie.spec
     learn-requires
     in-any-requires
+    is-obeyed-requires
     act-requires
-    is-due-requires
     show-requires
     returns
     returns-2)

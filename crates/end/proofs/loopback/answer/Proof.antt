@@ -1,7 +1,7 @@
 use borrow.Author.Needs.{needs}
-use Rattle.link.specs.Hearing.{answered}
-use Rattle.link.proofs.hearing.answer.Statement.{statement}
-use Rattle.link.proofs.hearing.answer.Tie as tie
+use Rattle.end.specs.Loopback.{answered}
+use Rattle.end.proofs.loopback.answer.Statement.{statement}
+use Rattle.end.proofs.loopback.answer.Tie as tie
 
 enum-told : tie.Need-enum-told
 enum-told c = search needs

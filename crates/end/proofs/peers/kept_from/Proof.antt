@@ -2,9 +2,9 @@ use mathlib.Core.Path.{sym, ap, _∙_}
 use Rattle.frame.specs.declared.Flags.{Flags}
 use borrow.Author.Tests.{eq-eqb, ne-eqb}
 use borrow.Author.Needs.{needs}
-use Rattle.link.specs.Hearing.{keptFrom}
-use Rattle.link.proofs.hearing.kept_from.Statement.{statement}
-use Rattle.link.proofs.hearing.kept_from.Tie as tie
+use Rattle.end.specs.Peers.{keptFrom}
+use Rattle.end.proofs.peers.kept_from.Statement.{statement}
+use Rattle.end.proofs.peers.kept_from.Tie as tie
 
 split-flags-requires : tie.Need-split-flags-requires
 split-flags-requires c κs = search needs

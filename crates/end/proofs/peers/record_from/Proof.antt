@@ -1,6 +1,6 @@
 use borrow.Author.Needs.{needs}
-use Rattle.link.proofs.hearing.record_from.Statement.{statement}
-use Rattle.link.proofs.hearing.record_from.Tie as tie
+use Rattle.end.proofs.peers.record_from.Statement.{statement}
+use Rattle.end.proofs.peers.record_from.Tie as tie
 
 enum-told : tie.Need-enum-told
 enum-told c = search needs

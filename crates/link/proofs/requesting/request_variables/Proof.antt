@@ -1,0 +1,68 @@
+use mathlib.Core.Path.{refl, _∙_}
+use denote.Ref.{now}
+use lib.ListN.{length}
+use Rattle.writer.specs.Plain.{sized}
+use Rattle.link.specs.Sending.{dues}
+use Rattle.link.specs.Requests.{requesting, answerTo, granted}
+use Rattle.link.proofs.Asking.{grants, refuses}
+use borrow.Author.Needs.{needs}
+use Rattle.link.proofs.requesting.request_variables.Statement.{statement}
+use Rattle.link.proofs.requesting.request_variables.Tie as tie
+
+request-octets-requires : tie.Need-request-octets-requires
+request-octets-requires c κs = search needs
+
+is-active-requires : tie.Need-is-active-requires
+is-active-requires c κs = search needs
+
+answer-to-requires : tie.Need-answer-to-requires
+answer-to-requires c κs = search needs
+
+grant-requires : tie.Need-grant-requires
+grant-requires c κs = search needs
+
+flags-requires : tie.Need-flags-requires
+flags-requires c κs = search needs
+
+write-request-requires : tie.Need-write-request-requires
+write-request-requires c κs = search needs
+
+send-requires : tie.Need-send-requires
+send-requires c κs = search needs
+
+same-length : tie.Need-same-length
+same-length c = search needs
+
+returns : tie.Need-returns
+unfolding granted dues
+returns c =
+    let a = c .before .before .before .before .before .before .before .before .before .before .before .before .before .before .args in
+    let q = requesting (now (a .descriptors)) (a .e) in
+    grants (sized (q .body)) q (a .e) (now (a .out)) (c .before .before .before .before .before .before .before .before .answer-to .result) (c .before .before .before .before .before .before .before .before .answer-to .ensures ∙ (λ i. answerTo (c .before .before .before .before .before .before .before .before .before .before .request-octets .ensures i) (c .before .before .before .before .before .before .before .before .before .is-active .ensures i) (length (now (a .out))) (a .e))) (c .before .before .before .before .before .before .before .if1 .taken)
+    (c .before .before .before .before .before .before .grant .result) (a .e .settings .source) (c .before .before .before .before .before .flags .result) (c .before .before .before .write-request .result) _ _
+    (c .before .before .before .before .before .before .grant .ensures) (refl) (c .before .before .before .before .before .flags .ensures) (c .before .before .before .write-request .ensures) (c .send .ensures)
+
+refuse-requires : tie.Need-refuse-requires
+refuse-requires c κs = search needs
+
+returns-2 : tie.Need-returns-2
+returns-2 c =
+    let a = c .before .before .before .before .before .before .before .before .args in
+    let q = requesting (now (a .descriptors)) (a .e) in
+    refuses (sized (q .body)) q (a .e) (now (a .out)) (c .before .before .answer-to .result) (c .before .before .answer-to .ensures ∙ (λ i. answerTo (c .before .before .before .before .request-octets .ensures i) (c .before .before .before .is-active .ensures i) (length (now (a .out))) (a .e))) (c .before .if1 .left) _ (c .refuse .ensures)
+
+pub request-variables-spec : {M : Type 1} → statement M
+request-variables-spec =
+    tie.close
+    (tie.spec
+    request-octets-requires
+    is-active-requires
+    answer-to-requires
+    grant-requires
+    flags-requires
+    write-request-requires
+    send-requires
+    same-length
+    returns
+    refuse-requires
+    returns-2)

@@ -1,0 +1,66 @@
+-- What every end keeps to that calls have made of a fresh one. The calls themselves trust no end to do so; the crate `reach` shows
+-- that each of them keeps it.
+use Prim.Native.Nat.{ℕ, _^_}
+use mathlib.Core.List.{List, [], _∷_}
+use mathlib.Core.Bool.{Bool, true, false, not, _&&_, _||_}
+use lib.Dec.{ltb, leb, eqb}
+use Rattle.frame.specs.declared.Held.{Held}
+use Rattle.frame.specs.declared.Held.the-variants.{Nothing, Is}
+use Rattle.writer.specs.Octets.{fit}
+use Rattle.writer.specs.Encode.{informationWidths, informationValues}
+use Rattle.end.specs.Ranges.{sound}
+use Rattle.end.specs.Peers.{held}
+use Rattle.end.specs.Limit.{bounded}
+use Rattle.end.specs.declared.Role.{Role}
+use Rattle.end.specs.declared.Role.the-variants.{Idle, Asking, Holding, Ending, Looping}
+use Rattle.link.specs.declared.Last.{Last}
+use Rattle.link.specs.declared.Last.the-variants.{Never, Number}
+use Rattle.link.specs.declared.Peer.{Peer}
+use Rattle.link.specs.declared.End.{End}
+use Rattle.link.specs.State.{inAny}
+use Rattle.link.specs.Sending.{allowed}
+
+abbrev pub all : List Bool → Bool
+all [] = true
+all (b ∷ bs) = b && all bs
+
+-- a record's fields within their widths
+unfoldable pub heldFits : Held → Bool
+heldFits Nothing = true
+heldFits (Is i) = fit informationWidths (informationValues i)
+
+unfoldable pub lastFits : Last → Bool
+lastFits Never = true
+lastFits (Number n) = ltb n (2 ^ 16)
+
+abbrev pub never : Last → Bool
+never Never = true
+never (Number n) = false
+
+abbrev pub idle : Role → Bool
+idle Idle = true
+idle Asking = false
+idle Holding = false
+idle Ending = false
+idle Looping = false
+
+-- "FAULT ... Clears peer record, kept peer field ... and last event number received."
+unfoldable pub blank : Peer → Bool
+blank p = eqb (p .kept) 0 && (not (held (p .held)) && never (p .last))
+
+unfoldable pub ranged : End → Bool
+ranged e =
+    all
+    (sound (e .settings)
+    ∷ ltb (e .settings .vendor) (2 ^ 32)
+    ∷ ltb (e .link .lost) 50
+    ∷ leb (e .peer .kept) 2
+    ∷ heldFits (e .peer .held)
+    ∷ lastFits (e .peer .last)
+    ∷ (e .link .up || blank (e .peer))
+    ∷ (idle (e .role) || inAny e)
+    ∷ bounded (e .meter)
+    ∷ ltb (e .own .revision) (2 ^ 16)
+    ∷ ltb (e .own .number) (2 ^ 16)
+    ∷ (not (e .own .owed) || allowed e)
+    ∷ [])
