@@ -1,0 +1,162 @@
+-- Every call comes to one of three things: it is refused, and nothing is changed; it is a tick, a report or an accepted frame
+-- that makes something of the end, notes what is owed, and writes an owed frame where it may; or it is a request that is
+-- granted. What is shown of calls elsewhere is shown for each of the three.
+use Prim.Native.Nat.{ℕ, _≤_}
+use mathlib.Core.Path.{_≡_, refl}
+use mathlib.Core.List.{List}
+use mathlib.Core.Bool.{false}
+use native.Mathlib.Omega.{arith}
+use borrow.Author.Tests.{ltb-false, eqb-true, eqb-false}
+use lib.ListN.{length}
+use lib.Dec.{ltb, eqb}
+use Rattle.frame.specs.Information.{nothing, keepAll}
+use Rattle.frame.specs.Frame.{Body, information, notification, request, response, loopback, organization, Message, codeOf, Answer, refused, accepted, decode, readingOf}
+use Rattle.frame.specs.declared.Held.{Held}
+use Rattle.frame.specs.declared.Held.the-variants.{Nothing as Silent}
+use Rattle.frame.proofs.Stepping.{refused-number}
+use Rattle.writer.specs.Plain.{sized}
+use Rattle.writer.specs.Writing.{writes, written}
+use Rattle.end.specs.Limit.{closing}
+use Rattle.link.specs.declared.End.{End}
+use Rattle.link.specs.declared.Report.{Report}
+use Rattle.link.specs.declared.Shown.the-variants.{Nothing}
+use Rattle.link.specs.declared.hearing.Action.{Action}
+use Rattle.link.specs.declared.hearing.Action.the-variants.{Inform, Notify, Command, Other}
+use Rattle.link.specs.declared.hearing.Heard.{Heard}
+use Rattle.link.specs.declared.hearing.Said.the-variants.{Is as SaidIs}
+use Rattle.link.specs.declared.hearing.Taken.{Taken}
+use Rattle.link.specs.Sending.{dues, outcome, lengthOf, concluded, concludedOutput}
+use Rattle.link.specs.Ticks.{ticked, tickedDue, tickOf, tickOutput}
+use Rattle.link.specs.Reports.{reported, reportedDue, reportOf, reportOutput}
+use Rattle.link.specs.Hearing.{heardOf, saidBy, taken, takenDue, concludedHeard, concludedHeardOutput, receiveOf, receiveOutput}
+use Rattle.link.specs.Requests.{answerTo, granted, requestToSend, concludedRequest, concludedRequestOutput, asks, asksOutput}
+use Rattle.reach.specs.Machine.{Request, Input, tick, report, receive, request as asking, Call, askedOf, outcomeOf, outputOf}
+use Rattle.reach.proofs.Bools.{whether}
+
+-- ---- what is heard of a message
+
+abbrev pub localIn : Body → Held
+localIn (information ps) = keepAll nothing ps .local
+localIn (notification n es) = Silent
+localIn (request ds) = Silent
+localIn (response cs) = Silent
+localIn (loopback n) = Silent
+localIn (organization oui x) = Silent
+
+abbrev pub actionIn : Body → Action
+actionIn (information ps) = Inform
+actionIn (notification n es) = Notify n
+actionIn (request ds) = Other
+actionIn (response cs) = Other
+actionIn (loopback n) = Command n
+actionIn (organization oui x) = Other
+
+abbrev pub heardIn : Message → Heard
+heardIn m =
+    heardOf (record { source = m .source; flags = m .flags; code = codeOf (m .body) }) (localIn (m .body)) (actionIn (m .body))
+
+said-is : (source flags : ℕ) (b : Body)
+    → saidBy (readingOf (accepted (record { source = source; flags = flags; body = b })))
+    ≡ SaidIs (heardIn (record { source = source; flags = flags; body = b }))
+said-is source flags (information ps) = refl
+said-is source flags (notification n es) = refl
+said-is source flags (request ds) = refl
+said-is source flags (response cs) = refl
+said-is source flags (loopback n) = refl
+said-is source flags (organization oui x) = refl
+
+-- ---- what a tick, a report or an accepted frame makes of an end, before what is owed is noted
+
+pub data Made (e : End) : Input → Taken → Type 0 where
+  ticks : Made e tick (record { end = ticked e; due = closing (e .meter); shown = Nothing })
+  reports : (r : Report) → Made e (report r) (record { end = reported r e; due = false; shown = Nothing })
+  hears : (f : List ℕ) (m : Message) → decode f ≡ accepted m → Made e (receive f) (taken (heardIn m) e)
+
+-- the end then: the revision, and what is owed
+abbrev pub noted : End → Taken → End
+noted e t = dues e (t .due) (t .end)
+
+-- ---- the three things
+
+pub record Refuses (c : Call) (e : End) : Type 0 where
+  pub number : ℕ
+  pub some : number ≡ 0 → ⊥
+  pub outcome : outcomeOf c e ≡ outcome e number 0 Nothing
+  pub output : outputOf c e ≡ c .out
+
+pub record Concludes (c : Call) (e : End) : Type 0 where
+  pub made : Taken
+  pub how : Made e (c .input) made
+  pub room : 60 ≤ length (c .out)
+  pub outcome : outcomeOf c e ≡ concluded (length (c .out)) (made .shown) (noted e made)
+  pub output : outputOf c e ≡ concludedOutput (noted e made) (c .out)
+
+pub record Grants (c : Call) (e : End) : Type 0 where
+  pub asked : Request
+  pub how : c .input ≡ asking asked
+  pub answer : answerTo (sized (askedOf asked e .body)) (askedOf asked e .permitted) (length (c .out)) e ≡ 0
+  pub outcome : outcomeOf c e
+      ≡ outcome (granted e (askedOf asked e .next)) 0
+      (lengthOf (writes (requestToSend (askedOf asked e .body) (granted e (askedOf asked e .next))) (length (c .out)))) Nothing
+  pub output : outputOf c e ≡ written (requestToSend (askedOf asked e .body) (granted e (askedOf asked e .next))) (c .out)
+
+pub data Comes (c : Call) (e : End) : Type 0 where
+  refuses : Refuses c e → Comes c e
+  concludes : Concludes c e → Comes c e
+  grants : Grants c e → Comes c e
+
+-- ---- each call
+
+-- "Receive, tick and report test 9 first, against 60 octets."
+short : (c : Call) (e : End) → outcomeOf c e ≡ outcome e 9 0 Nothing → outputOf c e ≡ c .out → Comes c e
+short c e o p = refuses (record { number = 9; some = λ z. absurd (omega arith); outcome = o; output = p })
+
+module _ (out : List ℕ) (e : End) where
+  abbrev lent : Input → Call
+  lent i = record { input = i; out = out }
+
+  comes-tick : Comes (lent tick) e
+  unfolding tickOf tickOutput tickedDue
+  comes-tick =
+      whether (ltb (length out) 60)
+      (λ t. short (lent tick) e (rw t) (rw t))
+      (λ n. concludes (record { made = _; how = ticks; room = ltb-false (length out) 60 n; outcome = rw n; output = rw n }))
+
+  comes-report : (r : Report) → Comes (lent (report r)) e
+  unfolding reportOf reportOutput reportedDue
+  comes-report r =
+      whether (ltb (length out) 60)
+      (λ t. short (lent (report r)) e (rw t) (rw t))
+      (λ n. concludes (record { made = _; how = reports r; room = ltb-false (length out) 60 n; outcome = rw n; output = rw n }))
+
+  comes-receive : (f : List ℕ) → Comes (lent (receive f)) e
+  unfolding receiveOf receiveOutput takenDue concludedHeard concludedHeardOutput
+  comes-receive f =
+      whether (ltb (length out) 60) (λ t. short (lent (receive f)) e (rw t) (rw t)) (λ n. by-answer n (decode f) refl)
+    where
+      by-answer : ltb (length out) 60 ≡ false → (a : Answer) → decode f ≡ a → Comes (lent (receive f)) e
+      by-answer n (refused k) d =
+          let some = refused-number f k d in
+          refuses (record { number = k; some = λ z. omega arith; outcome = rw (n, d); output = rw (n, d) })
+      by-answer n (accepted m) d =
+          let s = said-is (m .source) (m .flags) (m .body) in
+          concludes
+          (record { made = _; how = hears f m d; room = ltb-false (length out) 60 n; outcome = rw (n, d, s); output = rw (n, d, s) })
+
+  comes-request : (q : Request) → Comes (lent (asking q)) e
+  unfolding asks asksOutput concludedRequest concludedRequestOutput
+  comes-request q =
+      let a = askedOf q e in
+      let n : ℕ = answerTo (sized (a .body)) (a .permitted) (length out) e in
+      whether (eqb n 0)
+      (λ t. grants (record { asked = q; how = refl; answer = eqb-true n 0 t; outcome = rw t; output = rw t }))
+      (λ f. refuses (record { number = n; some = eqb-false n 0 f; outcome = rw f; output = rw f }))
+
+  comes-by : (i : Input) → Comes (lent i) e
+  comes-by tick = comes-tick
+  comes-by (report r) = comes-report r
+  comes-by (receive f) = comes-receive f
+  comes-by (asking q) = comes-request q
+
+pub comes : (c : Call) (e : End) → Comes c e
+comes c e = comes-by (c .out) e (c .input)

@@ -1,0 +1,183 @@
+-- The written-frames number is the frames written since the second closed: call by call, and over the whole history. It is
+-- never more than ten.
+use Prim.Native.Nat.{ℕ, _+_, _%_, _≤_}
+use mathlib.Core.Path.{_≡_, refl, sym, ap, _∙_}
+use mathlib.Core.List.{List, [], _∷_}
+use mathlib.Core.Bool.{Bool, true, false, cond, _&&_}
+use native.Mathlib.Omega.{arith}
+use borrow.Author.Tests.{leb-true, leb-false, lt-ltb, eq-eqb, ne-eqb}
+use lib.Dec.{leb, eqb}
+use lib.ListN.{length}
+use Rattle.frame.proofs.Walks.{by-cond}
+use Rattle.writer.proofs.Sizes.{encode-length}
+use Rattle.end.specs.Limit.{chargedMeter, closing, turnedMeter}
+use Rattle.end.specs.declared.Meter.{Meter}
+use Rattle.end.specs.declared.Settings.{Settings}
+use Rattle.link.specs.declared.End.{End}
+use Rattle.link.specs.declared.Outcome.{Outcome}
+use Rattle.link.specs.State.{freshEnd}
+use Rattle.link.specs.Sending.{dues, sends, sent}
+use Rattle.link.specs.Requests.{granted}
+use Rattle.link.specs.Ranges.{ranged}
+use Rattle.reach.specs.Machine.{Input, tick, report, receive, request, Call, outcomeOf, meant}
+use Rattle.reach.specs.Runs.{after, count, wrote, isTick, acceptedTick, ticksIn, framesIn}
+use Rattle.reach.proofs.Bools.{whether}
+use Rattle.reach.proofs.Coming.{noted, Concludes, Comes, refuses, concludes, grants, comes}
+use Rattle.reach.proofs.Standing.{Accepted, Bounded, Ranged, ranged-is}
+use Rattle.reach.proofs.Keeping.{OfOctets, turned-bounded}
+use Rattle.reach.proofs.Staying.{Lasting, meterBy, made-stays, asked-stays}
+use Rattle.reach.proofs.Ranging.{AllOfOctets, run-is}
+use Rattle.reach.proofs.Framing.{Silent, Writes, sent-outcome, kept-outcome, sends-writes, sends-none, grants-writes}
+
+-- the meter that a call finds: an accepted tick turns it
+abbrev pub opened : Call → End → Meter
+opened c e = cond (acceptedTick c e) (turnedMeter (e .meter)) (e .meter)
+
+-- and leaves: a written frame is counted
+abbrev pub Metered : Call → End → Type 0
+Metered c e = outcomeOf c e .end .meter ≡ cond (wrote c e) (chargedMeter (opened c e)) (opened c e)
+
+-- ---- whether a frame was written
+
+writes-wrote : (c : Call) (e : End) → Writes c e → wrote c e ≡ true
+writes-wrote c e w =
+    let long = encode-length (meant c e) (w .plainly) .0 in
+    rw (ne-eqb (outcomeOf c e .length) 0 (λ z. omega (arith, w .octets)))
+
+silent-wrote : (c : Call) (e : End) → Silent c e → wrote c e ≡ false
+silent-wrote c e s = rw (s .none)
+
+-- ---- each call
+
+-- an accepted call finds the meter by its input
+pub opened-by : (c : Call) (e : End) → outcomeOf c e .answer ≡ 0 → meterBy (c .input) (e .meter) ≡ opened c e
+opened-by c e h = rw h (by (c .input))
+  where
+    by : (i : Input) → meterBy i (e .meter) ≡ cond (isTick i && true) (turnedMeter (e .meter)) (e .meter)
+    by tick = refl
+    by (report r) = refl
+    by (receive f) = refl
+    by (request q) = refl
+
+-- a refused one finds it as it was
+opened-refused : (c : Call) (e : End) → (outcomeOf c e .answer ≡ 0 → ⊥) → e .meter ≡ opened c e
+opened-refused c e n = rw (ne-eqb (outcomeOf c e .answer) 0 n) (by (isTick (c .input)))
+  where
+    by : (b : Bool) → e .meter ≡ cond (b && false) (turnedMeter (e .meter)) (e .meter)
+    by true = refl
+    by false = refl
+
+pub noted-meter : (c : Call) (e : End) (h : Concludes c e) → noted e (h .made) .meter ≡ meterBy (c .input) (e .meter)
+unfolding dues
+noted-meter c e h = ap (λ (k : Lasting). k .meter) (made-stays e (c .input) (h .made) (h .how))
+
+by-comes : (c : Call) (e : End) → OfOctets (c .input) → Ranged e → Comes c e → Metered c e
+unfolding sent granted dues
+by-comes c e o r (refuses h) =
+    let same = opened-refused c e (λ z. h .some (sym (ap (λ (k : Outcome). k .answer) (h .outcome)) ∙ z)) in
+    ap (λ (k : Outcome). k .end .meter) (h .outcome) ∙ same ∙ rw (ap (λ (k : Outcome). k .length) (h .outcome))
+by-comes c e o r (concludes h) =
+    whether (sends (noted e (h .made)))
+    (λ t.
+    let x = sent-outcome c e h t in
+    let m = noted-meter c e h ∙ opened-by c e (ap (λ (k : Outcome). k .answer) x) in
+    let w = writes-wrote c e (sends-writes c e h t o r) in
+    rw w (ap (λ (k : Outcome). k .end .meter) x ∙ ap chargedMeter m))
+    (λ f.
+    let x = kept-outcome c e h f in
+    let m = noted-meter c e h ∙ opened-by c e (ap (λ (k : Outcome). k .answer) x) in
+    let w = silent-wrote c e (sends-none c e h f) in
+    rw w (ap (λ (k : Outcome). k .end .meter) x ∙ m))
+by-comes c e o r (grants h) =
+    let m = opened-by c e (ap (λ (k : Outcome). k .answer) (h .outcome)) in
+    let w = writes-wrote c e (grants-writes c e r h) in
+    let same = ap (λ (k : Lasting). k .meter) (asked-stays (h .asked) e) in
+    rw w (ap (λ (k : Outcome). k .end .meter) (h .outcome) ∙ ap chargedMeter (same ∙ ap (λ (i : Input). meterBy i (e .meter)) (sym (h .how)) ∙ m))
+
+pub call-meter : (c : Call) (e : End) → OfOctets (c .input) → ranged e ≡ true → Metered c e
+call-meter c e o r = by-comes c e o (ranged-is e r) (comes c e)
+
+-- ---- the numbers
+
+-- a meter that may be turned
+module _ (m : Meter) where
+  turned-written : (b : Bool) → cond b (turnedMeter m) m .written ≡ cond (b && closing m) 0 (m .written)
+  unfolding turnedMeter
+  turned-written true = by-cond (λ (k : Meter). k .written ≡ cond (closing m) 0 (m .written)) (closing m) (λ t. rw t) (λ f. rw f)
+  turned-written false = refl
+
+  may-turn-bounded : (b : Bool) → Bounded m → Bounded (cond b (turnedMeter m) m)
+  may-turn-bounded b h = by-cond Bounded b (λ _. turned-bounded m h) (λ _. h)
+
+  -- a frame that may be counted
+  charged-written : (b : Bool) → m .written ≤ 10 → cond b (chargedMeter m) m .written ≡ m .written + count b
+  unfolding chargedMeter
+  charged-written true h = rw (lt-ltb (m .written) 255 (omega arith))
+  charged-written false h = omega arith
+
+  charged-ticks : (b : Bool) → cond b (chargedMeter m) m .ticks ≡ m .ticks
+  unfolding chargedMeter
+  charged-ticks true = refl
+  charged-ticks false = refl
+
+-- the written-frames number after a call: none if it is a tick that closes a second, else what it was, and the call's own frame
+pub call-counts : (c : Call) (e : End) → OfOctets (c .input) → ranged e ≡ true
+    → outcomeOf c e .end .meter .written ≡ cond (acceptedTick c e && closing (e .meter)) 0 (e .meter .written) + count (wrote c e)
+call-counts c e o r =
+    let few = may-turn-bounded (e .meter) (acceptedTick c e) (ranged-is e r .stands .meter) .written in
+    ap (λ (k : Meter). k .written) (call-meter c e o r)
+    ∙ charged-written (opened c e) (wrote c e) few
+    ∙ ap (λ (k : ℕ). k + count (wrote c e)) (turned-written (e .meter) (acceptedTick c e))
+
+-- ---- the history
+
+-- the meter agrees with a history of some ticks and frames
+pub record Agrees (m : Meter) (t n : ℕ) : Type 0 where
+  pub ticks : m .ticks ≡ t % 10
+  pub written : m .written ≡ n
+
+closing-is : (m : Meter) (t : ℕ) → m .ticks ≡ t % 10 → closing m ≡ eqb ((t + 1) % 10) 0
+unfolding closing
+closing-is m t h =
+    whether (leb 9 (m .ticks))
+    (λ y. rw (y, eq-eqb ((t + 1) % 10) 0 (omega (arith, leb-true 9 (m .ticks) y))))
+    (λ n. rw (n, ne-eqb ((t + 1) % 10) 0 (λ z. omega (arith, leb-false 9 (m .ticks) n))))
+
+turned-ticks : (m : Meter) (t : ℕ) → m .ticks ≡ t % 10 → turnedMeter m .ticks ≡ (t + 1) % 10
+unfolding turnedMeter closing
+turned-ticks m t h =
+    by-cond (λ (k : Meter). k .ticks ≡ (t + 1) % 10) (leb 9 (m .ticks))
+    (λ y. omega (arith, leb-true 9 (m .ticks) y)) (λ n. omega (arith, leb-false 9 (m .ticks) n))
+
+-- a tick that may be counted
+may-turn : (m : Meter) (t n : ℕ) → Agrees m t n → (b : Bool)
+    → Agrees (cond b (turnedMeter m) m) (t + count b) (cond (b && eqb ((t + count b) % 10) 0) 0 n)
+may-turn m t n a true =
+    record {
+      ticks = turned-ticks m t (a .ticks);
+      written = turned-written m true ∙ rw (closing-is m t (a .ticks), a .written);
+    }
+may-turn m t n a false = record { ticks = omega (arith, a .ticks); written = a .written }
+
+pub run-agrees : (s : Settings) → Accepted s → (cs : List Call) → AllOfOctets cs
+    → Agrees (after s cs .meter) (ticksIn s cs) (framesIn s cs)
+unfolding freshEnd
+run-agrees s a [] o = record { ticks = refl; written = refl }
+run-agrees s a (c ∷ cs) o =
+    let e = after s cs in
+    let r = run-is s a cs (o .1) in
+    let g = may-turn (e .meter) (ticksIn s cs) (framesIn s cs) (run-agrees s a cs (o .1)) (acceptedTick c e) in
+    let few = may-turn-bounded (e .meter) (acceptedTick c e) (r .stands .meter) .written in
+    let m = by-comes c e (o .0) r (comes c e) in
+    record {
+      ticks = ap (λ (k : Meter). k .ticks) m ∙ charged-ticks (opened c e) (wrote c e) ∙ g .ticks;
+      written = ap (λ (k : Meter). k .written) m ∙ charged-written (opened c e) (wrote c e) few ∙ ap (λ (k : ℕ). k + count (wrote c e)) (g .written);
+    }
+
+-- the written-frames number is the count over the history
+pub run-counts : (s : Settings) → Accepted s → (cs : List Call) → AllOfOctets cs → after s cs .meter .written ≡ framesIn s cs
+run-counts s a cs o = run-agrees s a cs o .written
+
+-- "No end writes more than ten frames in one of its timer seconds."
+pub run-limit : (s : Settings) → Accepted s → (cs : List Call) → AllOfOctets cs → framesIn s cs ≤ 10
+run-limit s a cs o = omega (arith, run-counts s a cs o, run-is s a cs o .stands .meter .written)

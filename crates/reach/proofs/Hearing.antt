@@ -1,0 +1,78 @@
+-- What is heard of a frame of octets fits the widths that an end keeps it in.
+use Prim.Native.Nat.{ℕ, _^_, _<_, _≤_, _/_, _%_}
+use mathlib.Core.Path.{_≡_, refl}
+use mathlib.Core.List.{List, [], _∷_}
+use mathlib.Core.Bool.{true}
+use native.Mathlib.Omega.{arith}
+use borrow.Author.Tests.{eqb-false, lt-ltb}
+use lib.Dec.{eqb}
+use Rattle.frame.specs.Information.{InformationPart, local, remote, keepAll, nothing}
+use Rattle.frame.specs.Frame.{Body, information, notification, request, response, loopback, organization, Message, accepted, decode}
+use Rattle.frame.specs.declared.Found.{Found}
+use Rattle.frame.specs.declared.Held.{Held}
+use Rattle.frame.specs.declared.Held.the-variants.{Nothing, Is}
+use Rattle.frame.proofs.Numbers.{Octets}
+use Rattle.frame.proofs.Walks.{by-cond}
+use Rattle.writer.specs.Plain.{every}
+use Rattle.writer.proofs.Bools.{and-l, and-r}
+use Rattle.writer.proofs.Informing.{fitPart}
+use Rattle.writer.proofs.Fitting.{FitsBody, shown-fits}
+use Rattle.end.specs.Peers.{keptFrom, recordFrom}
+use Rattle.link.specs.declared.Last.{Last}
+use Rattle.link.specs.declared.hearing.Action.{Action}
+use Rattle.link.specs.declared.hearing.Action.the-variants.{Inform, Notify, Command, Other}
+use Rattle.link.specs.Hearing.{lastAfter}
+use Rattle.link.specs.Ranges.{heldFits, lastFits}
+use Rattle.reach.proofs.Coming.{localIn, actionIn}
+
+-- the number of a notification is one of two octets
+abbrev pub Numbered : Action → Type 0
+Numbered Inform = Unit {0}
+Numbered (Notify n) = n < 2 ^ 16
+Numbered (Command c) = Unit {0}
+Numbered Other = Unit {0}
+
+-- a Local TLV among parts that fit
+local-fits : (found : Found) (ps : List InformationPart) → heldFits (found .local) ≡ true → every fitPart ps ≡ true
+    → heldFits (keepAll found ps .local) ≡ true
+unfolding heldFits
+local-fits found [] h a = h
+local-fits found (local i ∷ ps) h a =
+    local-fits (record { local = Is i; remote = found .remote }) ps (and-l (fitPart (local i)) (every fitPart ps) a) (and-r (fitPart (local i)) (every fitPart ps) a)
+local-fits found (remote i ∷ ps) h a =
+    local-fits (record { local = found .local; remote = Is i }) ps h (and-r (fitPart (remote i)) (every fitPart ps) a)
+
+pub record HeardFits (b : Body) : Type 0 where
+  pub local : heldFits (localIn b) ≡ true
+  pub number : Numbered (actionIn b)
+
+body-heard : (b : Body) → FitsBody b → HeardFits b
+unfolding heldFits
+body-heard (information ps) h = record { local = local-fits nothing ps refl h; number = tt }
+body-heard (notification n es) h = record { local = refl; number = h .0 }
+body-heard (request ds) h = record { local = refl; number = tt }
+body-heard (response cs) h = record { local = refl; number = tt }
+body-heard (loopback n) h = record { local = refl; number = tt }
+body-heard (organization oui x) h = record { local = refl; number = tt }
+
+pub heard-fits : (f : List ℕ) (m : Message) → Octets f → decode f ≡ accepted m → HeardFits (m .body)
+heard-fits f m o d = body-heard (m .body) (shown-fits f m o d .body)
+
+-- ---- what is kept of it
+
+-- "a received 3 keeps the last value"
+pub kept-fits : (flags kept : ℕ) → kept ≤ 2 → keptFrom flags kept ≤ 2
+unfolding keptFrom
+kept-fits flags kept h =
+    by-cond (λ (k : ℕ). k ≤ 2) (eqb (flags / 8 % 4) 3) (λ _. h) (λ f. let n = eqb-false (flags / 8 % 4) 3 f in omega arith)
+
+pub record-fits : (local held : Held) → heldFits local ≡ true → heldFits held ≡ true → heldFits (recordFrom local held) ≡ true
+record-fits Nothing held l h = h
+record-fits (Is i) held l h = l
+
+pub last-fits : (a : Action) (last : Last) → Numbered a → lastFits last ≡ true → lastFits (lastAfter a last) ≡ true
+unfolding lastFits
+last-fits Inform last n h = h
+last-fits (Notify k) last n h = lt-ltb k (2 ^ 16) n
+last-fits (Command c) last n h = h
+last-fits Other last n h = h

@@ -1,0 +1,174 @@
+-- What each call makes of an end stands as that end stood: block by block.
+use Prim.Native.Nat.{ℕ, _<_}
+use mathlib.Core.Path.{_≡_, refl, _∙_}
+use mathlib.Core.List.{List}
+use mathlib.Core.Bool.{Bool, true, false}
+use native.Mathlib.Omega.{arith}
+use borrow.Author.Tests.{leb-false}
+use lib.Dec.{leb}
+use Rattle.frame.specs.Frame.{Message, accepted, decode}
+use Rattle.frame.proofs.Numbers.{Octets}
+use Rattle.frame.proofs.Walks.{by-cond}
+use Rattle.end.specs.Standing.{isAny, roleIn}
+use Rattle.end.specs.Limit.{closing, turnedMeter}
+use Rattle.end.specs.declared.Discovery.{Discovery}
+use Rattle.end.specs.declared.Discovery.the-variants.{Fault, ActiveSendLocal, PassiveWait, SendLocalRemote, SendLocalRemoteOk, SendAny}
+use Rattle.end.specs.declared.Role.{Role}
+use Rattle.end.specs.declared.Meter.{Meter}
+use Rattle.link.specs.declared.Link.{Link}
+use Rattle.link.specs.declared.End.{End}
+use Rattle.link.specs.declared.Report.{Report}
+use Rattle.link.specs.declared.Report.the-variants.{LinkUp, LinkDown, DyingGasp, CriticalEvent}
+use Rattle.link.specs.declared.hearing.Heard.{Heard}
+use Rattle.link.specs.declared.hearing.Taken.{Taken}
+use Rattle.link.specs.State.{withLink, noPeer, discoveryOf, inAny, faulted, settled}
+use Rattle.link.specs.Ticks.{missed, ticked}
+use Rattle.link.specs.Reports.{linkUp, linkDown, reported}
+use Rattle.link.specs.Hearing.{learned, acted, takenUp, taken}
+use Rattle.link.specs.Ranges.{heldFits, lastFits, idle, blank}
+use Rattle.reach.specs.Machine.{Input, tick, report, receive, request}
+use Rattle.reach.proofs.Bools.{not-both}
+use Rattle.reach.proofs.Coming.{localIn, actionIn, heardIn, Made, ticks, reports, hears}
+use Rattle.reach.proofs.Standing.{Fitting, Bounded, relinked, remetered, Stands, Rests}
+use Rattle.reach.proofs.Hearing.{heard-fits, kept-fits, record-fits, last-fits}
+
+-- ---- the moves
+
+idle-in : (d : Discovery) (r : Role) → isAny d ≡ false → idle (roleIn d r) ≡ true
+idle-in Fault r f = refl
+idle-in ActiveSendLocal r f = refl
+idle-in PassiveWait r f = refl
+idle-in SendLocalRemote r f = refl
+idle-in SendLocalRemoteOk r f = refl
+idle-in SendAny r f = not-both refl f
+
+-- "Leaving SEND_ANY makes the role Idle (HOUSE)."
+pub settled-rests : (e : End) → Rests (settled e)
+unfolding settled inAny discoveryOf
+settled-rests e f = idle-in (discoveryOf e) (e .role) f
+
+-- FAULT with the link down is not SEND_ANY
+pub down-any : (e : End) → e .link .up ≡ false → inAny e ≡ false
+unfolding inAny discoveryOf
+down-any e h = rw h
+
+-- FAULT clears what is kept of the peer
+no-peer-fits : Fitting noPeer
+unfolding heldFits lastFits
+no-peer-fits = record { kept = omega arith; held = refl; last = refl }
+
+fault-stands : (e : End) → Stands e → (l : Link) → l .lost < 50 → Stands (withLink l (faulted e))
+unfolding faulted blank
+fault-stands e s l h = relinked s h no-peer-fits (λ _. refl)
+
+-- ---- a tick
+
+missed-stands : (e : End) → Stands e → Stands (missed e)
+unfolding missed
+missed-stands e s =
+    by-cond Stands (e .link .up)
+    (λ _. by-cond Stands (leb 49 (e .link .lost))
+    (λ _. fault-stands e s (record { up = true; lost = 0 }) (omega arith))
+    (λ f. relinked s (omega (arith, leb-false 49 (e .link .lost) f)) (s .peer) (λ z. not-both refl z)))
+    (λ _. s)
+
+pub turned-bounded : (m : Meter) → Bounded m → Bounded (turnedMeter m)
+unfolding turnedMeter closing
+turned-bounded m b =
+    by-cond Bounded (leb 9 (m .ticks))
+    (λ _. record { ticks = omega arith; written = omega arith })
+    (λ f. record { ticks = omega (arith, leb-false 9 (m .ticks) f); written = b .written })
+
+ticked-stands : (e : End) → Stands e → Stands (ticked e)
+unfolding ticked settled
+ticked-stands e s = remetered (missed-stands e s) (turned-bounded (e .meter) (s .meter))
+
+ticked-rests : (e : End) → Rests (ticked e)
+unfolding ticked inAny discoveryOf
+ticked-rests e f = settled-rests (missed e) f
+
+-- ---- a report
+
+reported-stands : (r : Report) (e : End) → Stands e → Stands (reported r e)
+unfolding linkUp linkDown
+reported-stands LinkUp e s =
+    by-cond Stands (e .link .up) (λ _. s) (λ _. relinked s (omega arith) (s .peer) (λ z. not-both refl z))
+reported-stands LinkDown e s =
+    by-cond Stands (e .link .up) (λ _. fault-stands e s (record { up = false; lost = e .link .lost }) (s .lost)) (λ _. s)
+reported-stands (DyingGasp on) e s = s
+reported-stands (CriticalEvent on) e s = s
+
+reported-rests : (r : Report) (e : End) → Rests e → Rests (reported r e)
+unfolding linkUp linkDown faulted inAny discoveryOf
+reported-rests LinkUp e h = by-cond Rests (e .link .up) (λ _. h) (λ f _. h (down-any e f))
+reported-rests LinkDown e h = by-cond Rests (e .link .up) (λ _ _. refl) (λ _. h)
+reported-rests (DyingGasp on) e h = h
+reported-rests (CriticalEvent on) e h = h
+
+-- ---- an accepted frame
+
+-- a property of what a frame makes of an end, from each of the three ends that it may be
+pub by-taken : (m : Heard) (e : End) (P : End → Type 0) → (e .link .up ≡ false → P e)
+    → (e .link .up ≡ true → inAny (learned m e) ≡ false → P (learned m e))
+    → (e .link .up ≡ true → inAny (learned m e) ≡ true → (b : Bool) → P (acted m b (learned m e)))
+    → P (taken m e .end)
+unfolding taken takenUp
+by-taken m e P down learns acts =
+    by-cond (λ (t : Taken). P (t .end)) (e .link .up)
+    (λ up. by-cond (λ (t : Taken). P (t .end)) (inAny (learned m e)) (λ t. acts up t _) (λ n. learns up n))
+    down
+
+module _ (f : List ℕ) (m : Message) (o : Octets f) (d : decode f ≡ accepted m) (e : End) (s : Stands e) where
+  learned-stands : e .link .up ≡ true → Stands (learned (heardIn m) e)
+  unfolding learned settled
+  learned-stands up =
+      relinked s (omega arith)
+      (record {
+        kept = kept-fits (m .flags) (e .peer .kept) (s .peer .kept);
+        held = record-fits (localIn (m .body)) (e .peer .held) (heard-fits f m o d .local) (s .peer .held);
+        last = s .peer .last;
+      })
+      (λ z. not-both up z)
+
+  acted-stands : (b : Bool) (x : End) → x .link .up ≡ true → Stands x → Stands (acted (heardIn m) b x)
+  unfolding acted
+  acted-stands b x up h =
+      relinked h (h .lost)
+      (record {
+        kept = h .peer .kept;
+        held = h .peer .held;
+        last = last-fits (actionIn (m .body)) (x .peer .last) (heard-fits f m o d .number) (h .peer .last);
+      })
+      (λ z. not-both up z)
+
+  learned-up : (learned (heardIn m) e) .link .up ≡ e .link .up
+  unfolding learned settled
+  learned-up = refl
+
+  taken-stands : Stands (taken (heardIn m) e .end)
+  taken-stands =
+      by-taken (heardIn m) e Stands (λ _. s) (λ up _. learned-stands up)
+      (λ up _ b. acted-stands b (learned (heardIn m) e) (learned-up ∙ up) (learned-stands up))
+
+taken-rests : (m : Message) (e : End) → Rests e → Rests (taken (heardIn m) e .end)
+unfolding learned acted inAny discoveryOf
+taken-rests m e h = by-taken (heardIn m) e Rests (λ _. h) (λ _ n _. settled-rests _ n) (λ _ t _ n. not-both t n)
+
+-- ---- what is made of an end by any of them
+
+-- frames are of octets
+abbrev pub OfOctets : Input → Type 0
+OfOctets tick = Unit {0}
+OfOctets (report r) = Unit {0}
+OfOctets (receive f) = Octets f
+OfOctets (request q) = Unit {0}
+
+pub made-stands : (e : End) (i : Input) (t : Taken) → Made e i t → OfOctets i → Stands e → Stands (t .end)
+made-stands e i t ticks o s = ticked-stands e s
+made-stands e i t (reports r) o s = reported-stands r e s
+made-stands e i t (hears f m d) o s = taken-stands f m o d e s
+
+pub made-rests : (e : End) (i : Input) (t : Taken) → Made e i t → Rests e → Rests (t .end)
+made-rests e i t ticks h = ticked-rests e
+made-rests e i t (reports r) h = reported-rests r e h
+made-rests e i t (hears f m d) h = taken-rests m e h

@@ -1,0 +1,16 @@
+pub mod Bools
+pub mod Coming
+pub mod Standing
+pub mod Hearing
+pub mod Keeping
+pub mod Staying
+pub mod Passing
+pub mod Ranging
+pub mod Refusing
+pub mod Plainly
+pub mod Framing
+pub mod Counting
+pub mod Waiting
+pub mod Numbering
+pub mod Losing
+pub mod Witness

@@ -1,0 +1,162 @@
+-- What a ranged end writes has plain form: its flags, its Local TLV, its peer's record with ignored bits zero. Its Information
+-- frame is 60 octets long.
+use Prim.Native.Nat.{ℕ, _/_, _%_, _^_, _<_, _≤_}
+use mathlib.Core.Path.{_≡_, refl, ap}
+use mathlib.Core.Bool.{Bool, true, false, cond}
+use native.Mathlib.Omega.{arith}
+use borrow.Author.Tests.{ltb-true, leb-true, lt-ltb, ne-eqb}
+use lib.Dec.{ltb, leb}
+use lib.ListN.{length}
+use Rattle.frame.specs.Flags.{flagsOf, joined}
+use Rattle.frame.specs.Frame.{Body, information, Message}
+use Rattle.frame.specs.declared.Flags.{Flags}
+use Rattle.frame.specs.declared.Information.{Information}
+use Rattle.frame.specs.declared.Held.{Held}
+use Rattle.frame.specs.declared.Held.the-variants.{Nothing, Is}
+use Rattle.frame.proofs.Numbers.{bit-lt}
+use Rattle.frame.proofs.FlagLaws.{split-join}
+use Rattle.writer.specs.Octets.{fit}
+use Rattle.writer.specs.Encode.{informationWidths, informationValues, encode}
+use Rattle.writer.specs.Plain.{plainFlags, plainInformation, plainParts, plainBody, plain, sized}
+use Rattle.writer.specs.Writing.{messageOf, partsFrom, partsOf}
+use Rattle.writer.proofs.Bools.{and-l, and-r}
+use Rattle.writer.proofs.Lengths.{length-encode}
+use Rattle.writer.proofs.Informing.{plain-parts}
+use Rattle.writer.proofs.Sizes.{plain-sized}
+use Rattle.end.specs.Roles.{octetOf}
+use Rattle.end.specs.Ranges.{sound}
+use Rattle.end.specs.Sending.{localField, remoteField, ownInformation, clearedInformation, clearedHeld}
+use Rattle.end.specs.declared.Settings.{Settings}
+use Rattle.end.specs.declared.Role.{Role}
+use Rattle.end.specs.declared.Role.the-variants.{Idle, Asking, Holding, Ending, Looping}
+use Rattle.end.specs.declared.Discovery.{Discovery}
+use Rattle.end.specs.declared.Discovery.the-variants.{Fault, ActiveSendLocal, PassiveWait, SendLocalRemote, SendLocalRemoteOk, SendAny}
+use Rattle.link.specs.declared.End.{End}
+use Rattle.link.specs.State.{discoveryOf}
+use Rattle.link.specs.Sending.{flagsToSend, tlvsToSend, informationToSend}
+use Rattle.link.specs.Ranges.{heldFits}
+use Rattle.reach.proofs.Bools.{whether}
+use Rattle.reach.proofs.Standing.{Accepted, Stands}
+
+-- ---- flags
+
+joined-below : (f : Flags) → joined f < 128
+unfolding joined
+joined-below f = omega (arith, bit-lt (f .fault), bit-lt (f .gasp), bit-lt (f .critical))
+
+joined-plain : (f : Flags) → f .local ≤ 2 → f .remote ≤ 2 → plainFlags (joined f) ≡ true
+unfolding plainFlags
+joined-plain f l r =
+    let s = split-join f (omega arith) (omega arith) in
+    let a : flagsOf (joined f) .local ≡ f .local = ap (λ (x : Flags). x .local) s in
+    let b : flagsOf (joined f) .remote ≡ f .remote = ap (λ (x : Flags). x .remote) s in
+    rw (lt-ltb (joined f) 128 (joined-below f), ne-eqb (joined f / 8 % 4) 3 (λ z. omega arith), ne-eqb (joined f / 32 % 4) 3 (λ z. omega arith))
+
+local-le : (d : Discovery) → localField d ≤ 2
+local-le Fault = omega arith
+local-le ActiveSendLocal = omega arith
+local-le PassiveWait = omega arith
+local-le SendLocalRemote = omega arith
+local-le SendLocalRemoteOk = omega arith
+local-le SendAny = omega arith
+
+remote-le : (kept : ℕ) (peer : Held) → kept ≤ 2 → remoteField kept peer ≤ 2
+unfolding remoteField
+remote-le kept Nothing h = omega arith
+remote-le kept (Is i) h = h
+
+flags-plain : (e : End) → Stands e → plainFlags (flagsToSend e) ≡ true
+unfolding flagsToSend
+flags-plain e s = joined-plain _ (local-le (discoveryOf e)) (remote-le (e .peer .kept) (e .peer .held) (s .peer .kept))
+
+-- ---- Information TLVs
+
+octet-lt : (r : Role) → octetOf r < 8
+octet-lt Idle = omega arith
+octet-lt Asking = omega arith
+octet-lt Holding = omega arith
+octet-lt Ending = omega arith
+octet-lt Looping = omega arith
+
+-- fields within their bits and widths
+fields-plain : (i : Information) → i .state < 8 → i .configuration < 32 → i .oampdu < 2048 → i .version < 256 ^ 1 → i .revision < 256 ^ 2 → i .oui < 256 ^ 3
+    → i .vendor < 256 ^ 4 → plainInformation i ≡ true
+unfolding plainInformation
+fields-plain i s c o v r u w =
+    rw (
+      lt-ltb (i .state) 8 s,
+      lt-ltb (i .configuration) 32 c,
+      lt-ltb (i .oampdu) 2048 o,
+      lt-ltb (i .version) (256 ^ 1) v,
+      lt-ltb (i .revision) (256 ^ 2) r,
+      lt-ltb (i .state) (256 ^ 1) (omega arith),
+      lt-ltb (i .configuration) (256 ^ 1) (omega arith),
+      lt-ltb (i .oampdu) (256 ^ 2) (omega arith),
+      lt-ltb (i .oui) (256 ^ 3) u,
+      lt-ltb (i .vendor) (256 ^ 4) w,
+    )
+
+own-plain : (s : Settings) (revision : ℕ) (role : Role) → Accepted s → revision < 2 ^ 16 → plainInformation (ownInformation s revision role) ≡ true
+unfolding ownInformation sound
+own-plain s revision role a r =
+    let h = a .sound in
+    let configuration : ltb (s .configuration) 32 ≡ true = search and-l in
+    let size : leb (s .size) 1518 ≡ true = search (and-l, and-r) in
+    let oui : ltb (s .oui) (256 ^ 3) ≡ true = search (and-l, and-r) in
+    fields-plain (ownInformation s revision role) (octet-lt role) (ltb-true (s .configuration) 32 configuration)
+    (omega (arith, leb-true (s .size) 1518 size)) (omega arith) r (ltb-true (s .oui) (256 ^ 3) oui) (a .vendor)
+
+cleared-plain : (i : Information) → fit informationWidths (informationValues i) ≡ true → plainInformation (clearedInformation i) ≡ true
+unfolding clearedInformation
+cleared-plain i h =
+    let version : ltb (i .version) (256 ^ 1) ≡ true = search and-l in
+    let revision : ltb (i .revision) (256 ^ 2) ≡ true = search (and-l, and-r) in
+    let oui : ltb (i .oui) (256 ^ 3) ≡ true = search (and-l, and-r) depth 8 in
+    let vendor : ltb (i .vendor) (256 ^ 4) ≡ true = search (and-l, and-r) depth 9 in
+    fields-plain (clearedInformation i) (omega arith) (omega arith) (omega arith) (ltb-true (i .version) (256 ^ 1) version)
+    (ltb-true (i .revision) (256 ^ 2) revision) (ltb-true (i .oui) (256 ^ 3) oui) (ltb-true (i .vendor) (256 ^ 4) vendor)
+
+-- the Local alone, or the peer's record after it; with the link down no TLV
+parts-plain : (up : Bool) (own : Information) (peer : Held) → plainInformation own ≡ true → heldFits peer ≡ true
+    → plainParts (partsFrom (cond up (Is own) Nothing) (cond up (clearedHeld peer) Nothing)) ≡ true
+unfolding heldFits clearedHeld
+parts-plain true own Nothing o h = o
+parts-plain true own (Is i) o h = rw (o, cleared-plain i h)
+parts-plain false own peer o h = refl
+
+-- ---- the frame
+
+-- a message of an end, with a body in plain form
+pub message-plain : (e : End) (b : Body) → Stands e → plainBody b ≡ true → plain (messageOf (e .settings .source) (flagsToSend e) b) ≡ true
+unfolding plain sound
+message-plain e b s h =
+    let k = s .settings .sound in
+    let source : ltb (e .settings .source) (256 ^ 6) ≡ true = search (and-l, and-r) depth 7 in
+    rw (source, flags-plain e s, h)
+
+module _ (e : End) (s : Stands e) where
+  tlvs-plain : plainParts (partsOf (tlvsToSend e)) ≡ true
+  unfolding tlvsToSend
+  tlvs-plain =
+      parts-plain (e .link .up) (ownInformation (e .settings) (e .own .revision) (e .role)) (e .peer .held)
+      (own-plain (e .settings) (e .own .revision) (e .role) (s .settings) (s .revision)) (s .peer .held)
+
+  pub information-plain : plain (informationToSend e) ≡ true
+  unfolding informationToSend
+  information-plain = message-plain e (information (partsOf (tlvsToSend e))) s tlvs-plain
+
+  pub information-60 : length (encode (informationToSend e)) ≡ 60
+  unfolding informationToSend
+  information-60 =
+      let ps = partsOf (tlvsToSend e) in
+      omega (arith, length-encode (informationToSend e), plain-sized (information ps) tlvs-plain .long, plain-parts ps tlvs-plain .few)
+
+-- ---- a request's frame is as long as its body was measured, and has a plain form where that is not 0
+
+pub sized-is-plain : (b : Body) → 0 < sized b → plainBody b ≡ true
+unfolding sized
+sized-is-plain b h = whether (plainBody b) (λ t. t) (λ f. let z : sized b ≡ 0 = rw f in absurd (omega arith))
+
+pub encode-sized : (m : Message) → plainBody (m .body) ≡ true → length (encode m) ≡ sized (m .body)
+unfolding sized
+encode-sized m h = rw h (omega (arith, length-encode m, plain-sized (m .body) h .long))

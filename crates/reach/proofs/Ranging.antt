@@ -1,0 +1,146 @@
+-- Every end that calls make of a fresh one is ranged: the lost-link count stays below 50, a second has at most ten ticks and
+-- ten frames, the kept field is at most 2, a role other than Idle stands in SEND_ANY, nothing is owed where it is not allowed,
+-- with the link down no peer record is held, and every number fits its octets.
+use Prim.Native.Nat.{ℕ, _^_, _<_, _≤_}
+use mathlib.Core.Path.{_≡_, refl, sym, ap, _∙_}
+use mathlib.Core.List.{List, [], _∷_}
+use mathlib.Core.Bool.{Bool, true, false}
+use native.Mathlib.Omega.{arith}
+use borrow.Author.Tests.{ltb-true}
+use lib.Dec.{ltb}
+use lib.ListN.{length}
+use Rattle.frame.proofs.Walks.{by-cond}
+use Rattle.writer.proofs.Bools.{never, and-l, and-r}
+use Rattle.end.specs.Limit.{room, chargedMeter}
+use Rattle.end.specs.Owing.{following}
+use Rattle.end.specs.declared.Meter.{Meter}
+use Rattle.end.specs.declared.Settings.{Settings}
+use Rattle.link.specs.declared.End.{End}
+use Rattle.link.specs.declared.Shown.{Shown}
+use Rattle.link.specs.declared.Outcome.{Outcome}
+use Rattle.link.specs.declared.hearing.Taken.{Taken}
+use Rattle.link.specs.State.{discoveryOf, inAny}
+use Rattle.link.specs.Sending.{octetChanged, allowed, faultOf, dues, sends, sent, concluded}
+use Rattle.link.specs.Requests.{granted}
+use Rattle.link.specs.Ranges.{idle, ranged}
+use Rattle.reach.specs.Machine.{Request, start, stop, variables, notify, tell, Input, Call, askedOf, outcomeOf}
+use Rattle.reach.specs.Runs.{after}
+use Rattle.reach.proofs.Bools.{not-both, whether}
+use Rattle.reach.proofs.Coming.{Made, noted, Comes, refuses, concludes, grants, comes}
+use Rattle.reach.proofs.Standing.{Accepted, Bounded, remetered, renumbered, Stands, Rests, Ranged, ranged-is, is-ranged, fresh-is}
+use Rattle.reach.proofs.Keeping.{OfOctets, made-stands, made-rests}
+use Rattle.reach.proofs.Staying.{Lasting, asked-stays}
+use Rattle.reach.proofs.Passing.{passes-grant}
+
+-- ---- the revision, and what is owed
+
+wraps : (n : ℕ) → following n < 2 ^ 16
+wraps n = omega arith
+
+dues-ranged : (before : End) (due : Bool) (e : End) → Stands e → Rests e → Ranged (dues before due e)
+unfolding dues inAny allowed discoveryOf faultOf
+dues-ranged before due e s r =
+    let n = e .own .revision in
+    record {
+      stands = renumbered s
+          (by-cond (λ (k : ℕ). k < 2 ^ 16) (octetChanged (before .role) (e .role)) (λ _. wraps n) (λ _. s .revision)) (s .number);
+      rests = r;
+      owes = λ h. and-l (allowed e) _ h;
+    }
+
+-- ---- a frame is written
+
+pub charged-bounded : (m : Meter) → room m ≡ true → Bounded m → Bounded (chargedMeter m)
+unfolding room chargedMeter
+charged-bounded m h b =
+    let few = ltb-true (m .written) 10 h in
+    record {
+      ticks = b .ticks;
+      written = by-cond (λ (k : ℕ). k ≤ 10) (ltb (m .written) 255) (λ _. omega arith) (λ _. b .written);
+    }
+
+sent-ranged : (e : End) → sends e ≡ true → Ranged e → Ranged (sent e)
+unfolding sends sent inAny discoveryOf
+sent-ranged e h r =
+    record {
+      stands = remetered (r .stands) (charged-bounded (e .meter) (and-r (e .own .owed) (room (e .meter)) h) (r .stands .meter));
+      rests = r .rests;
+      owes = λ z. never z;
+    }
+
+concluded-ranged : (octets : ℕ) (shown : Shown) (e : End) → Ranged e → Ranged (concluded octets shown e .end)
+unfolding concluded
+concluded-ranged octets shown e r =
+    by-cond (λ (o : Outcome). Ranged (o .end)) (sends e) (λ t. sent-ranged e t r) (λ _. r)
+
+-- ---- requests
+
+asked-stands : (q : Request) (e : End) → Stands e → Stands (askedOf q e .next)
+asked-stands start e s = s
+asked-stands stop e s = s
+asked-stands (variables ds) e s = s
+asked-stands (notify vs) e s = renumbered s (s .revision) (wraps (e .own .number))
+asked-stands (tell oui x) e s = s
+
+asked-any : (q : Request) (e : End) → inAny (askedOf q e .next) ≡ inAny e
+unfolding inAny discoveryOf
+asked-any start e = refl
+asked-any stop e = refl
+asked-any (variables ds) e = refl
+asked-any (notify vs) e = refl
+asked-any (tell oui x) e = refl
+
+granted-ranged : (before e : End) → room (e .meter) ≡ true → Ranged (dues before false e) → Ranged (granted before e)
+unfolding granted dues inAny allowed discoveryOf faultOf
+granted-ranged before e h r =
+    record {
+      stands = remetered (r .stands) (charged-bounded (e .meter) h (r .stands .meter));
+      rests = r .rests;
+      owes = r .owes;
+    }
+
+-- ---- every call
+
+-- what a tick, a report or an accepted frame comes to before its frame is written
+pub noted-ranged : (e : End) (i : Input) (t : Taken) → Made e i t → OfOctets i → Ranged e → Ranged (noted e t)
+noted-ranged e i t h o r = dues-ranged e (t .due) (t .end) (made-stands e i t h o (r .stands)) (made-rests e i t h (r .rests))
+
+-- what a granted request comes to
+pub asked-ranged : (q : Request) (e : End) → inAny e ≡ true → room (e .meter) ≡ true → Ranged e → Ranged (granted e (askedOf q e .next))
+asked-ranged q e any roomy r =
+    let x = askedOf q e .next in
+    granted-ranged e x (rw (ap (λ (k : Lasting). k .meter) (asked-stays q e)) roomy)
+    (dues-ranged e false x (asked-stands q e (r .stands)) (λ n. not-both any (sym (asked-any q e) ∙ n)))
+
+by-comes : (c : Call) (e : End) → OfOctets (c .input) → Ranged e → Comes c e → Ranged (outcomeOf c e .end)
+by-comes c e o r (refuses h) = rw (h .outcome) r
+by-comes c e o r (concludes h) =
+    rw (h .outcome)
+    (concluded-ranged (length (c .out)) (h .made .shown) (noted e (h .made)) (noted-ranged e (c .input) (h .made) (h .how) o r))
+by-comes c e o r (grants h) =
+    let p = passes-grant h in
+    rw (h .outcome) (asked-ranged (h .asked) e (p .any) (p .roomy) r)
+
+-- a call keeps it
+pub keeps-ranged : (c : Call) (e : End) → OfOctets (c .input) → Ranged e → Ranged (outcomeOf c e .end)
+keeps-ranged c e o r = by-comes c e o r (comes c e)
+
+pub call-ranged : (c : Call) (e : End) → OfOctets (c .input) → ranged e ≡ true → ranged (outcomeOf c e .end) ≡ true
+call-ranged c e o h = is-ranged (outcomeOf c e .end) (keeps-ranged c e o (ranged-is e h))
+
+-- every frame of a list of calls is of octets
+abbrev pub AllOfOctets : List Call → Type 0
+AllOfOctets [] = Unit {0}
+AllOfOctets (c ∷ cs) = OfOctets (c .input) × AllOfOctets cs
+
+-- and so does any list of calls
+pub run-is : (s : Settings) → Accepted s → (cs : List Call) → AllOfOctets cs → Ranged (after s cs)
+run-is s a [] o = fresh-is s a
+run-is s a (c ∷ cs) o = keeps-ranged c (after s cs) (o .0) (run-is s a cs (o .1))
+
+pub run-ranged : (s : Settings) → Accepted s → (cs : List Call) → AllOfOctets cs → ranged (after s cs) ≡ true
+run-ranged s a cs o = is-ranged (after s cs) (run-is s a cs o)
+
+-- a role other than Idle stands in SEND_ANY
+pub busy-any : (e : End) → ranged e ≡ true → idle (e .role) ≡ false → inAny e ≡ true
+busy-any e r b = whether (inAny e) (λ t. t) (λ f. not-both (ranged-is e r .rests f) b)

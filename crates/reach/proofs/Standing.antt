@@ -1,0 +1,176 @@
+-- The parts of `ranged`, both ways, and that a fresh end has them.
+use Prim.Native.Nat.{ℕ, _^_, _<_, _≤_}
+use mathlib.Core.Path.{_≡_, refl}
+use mathlib.Core.List.{List, [], _∷_}
+use mathlib.Core.Bool.{Bool, true, false, not, _||_}
+use native.Mathlib.Omega.{arith}
+use borrow.Author.Tests.{ltb-true, leb-true, lt-ltb, le-leb}
+use lib.Dec.{ltb, leb}
+use Rattle.end.specs.Ranges.{sound}
+use Rattle.end.specs.Limit.{bounded}
+use Rattle.end.specs.declared.Settings.{Settings}
+use Rattle.end.specs.declared.Meter.{Meter}
+use Rattle.writer.proofs.Bools.{never, and-l, and-r}
+use Rattle.link.specs.declared.Link.{Link}
+use Rattle.link.specs.declared.Peer.{Peer}
+use Rattle.link.specs.declared.End.{End}
+use Rattle.link.specs.declared.FreshEnd.the-variants.{Refused, Is}
+use Rattle.link.specs.State.{freshEnd, freshOf, inAny}
+use Rattle.link.specs.Sending.{allowed}
+use Rattle.link.specs.Ranges.{heldFits, lastFits, idle, blank, ranged}
+use Rattle.reach.proofs.Bools.{or-l, or-r, implies, is-or-l, is-or-r, is-implied, all-at}
+
+-- ---- the parts
+
+-- settings that the paper takes, whose vendor fits its four octets
+pub record Accepted (s : Settings) : Type 0 where
+  pub sound : sound s ≡ true
+  pub vendor : s .vendor < 2 ^ 32
+
+-- the kept field is at most 2; the record and the event number fit their octets
+pub record Fitting (p : Peer) : Type 0 where
+  pub kept : p .kept ≤ 2
+  pub held : heldFits (p .held) ≡ true
+  pub last : lastFits (p .last) ≡ true
+
+-- a second has ten ticks and at most ten frames
+pub record Bounded (m : Meter) : Type 0 where
+  pub ticks : m .ticks < 10
+  pub written : m .written ≤ 10
+
+-- all of an end but its role and what it owes; with the link down no record is held
+pub record Standing (s : Settings) (l : Link) (p : Peer) (m : Meter) (r n : ℕ) : Type 0 where
+  pub settings : Accepted s
+  pub lost : l .lost < 50
+  pub peer : Fitting p
+  pub down : l .up ≡ false → blank p ≡ true
+  pub meter : Bounded m
+  pub revision : r < 2 ^ 16
+  pub number : n < 2 ^ 16
+
+-- the same with one part anew
+module _ {s : Settings} {l : Link} {p : Peer} {m : Meter} {r n : ℕ} (h : Standing s l p m r n) where
+  pub remetered : {m′ : Meter} → Bounded m′ → Standing s l p m′ r n
+  remetered b =
+      record { settings = h .settings; lost = h .lost; peer = h .peer; down = h .down; meter = b; revision = h .revision; number = h .number }
+
+  pub renumbered : {r′ n′ : ℕ} → r′ < 2 ^ 16 → n′ < 2 ^ 16 → Standing s l p m r′ n′
+  renumbered a b = record { settings = h .settings; lost = h .lost; peer = h .peer; down = h .down; meter = h .meter; revision = a; number = b }
+
+  pub relinked : {l′ : Link} {p′ : Peer} → l′ .lost < 50 → Fitting p′ → (l′ .up ≡ false → blank p′ ≡ true) → Standing s l′ p′ m r n
+  relinked a b d = record { settings = h .settings; lost = a; peer = b; down = d; meter = h .meter; revision = h .revision; number = h .number }
+
+abbrev pub Stands : End → Type 0
+Stands e = Standing (e .settings) (e .link) (e .peer) (e .meter) (e .own .revision) (e .own .number)
+
+-- outside SEND_ANY the role is Idle
+abbrev pub Rests : End → Type 0
+Rests e = inAny e ≡ false → idle (e .role) ≡ true
+
+-- "Where it isn't allowed nothing is owed."
+abbrev pub Owes : End → Type 0
+Owes e = e .own .owed ≡ true → allowed e ≡ true
+
+pub record Ranged (e : End) : Type 0 where
+  pub stands : Stands e
+  pub rests : Rests e
+  pub owes : Owes e
+
+-- ---- as tests
+
+abbrev tests : End → List Bool
+tests e =
+    sound (e .settings)
+    ∷ ltb (e .settings .vendor) (2 ^ 32)
+    ∷ ltb (e .link .lost) 50
+    ∷ leb (e .peer .kept) 2
+    ∷ heldFits (e .peer .held)
+    ∷ lastFits (e .peer .last)
+    ∷ (e .link .up || blank (e .peer))
+    ∷ (idle (e .role) || inAny e)
+    ∷ bounded (e .meter)
+    ∷ ltb (e .own .revision) (2 ^ 16)
+    ∷ ltb (e .own .number) (2 ^ 16)
+    ∷ (not (e .own .owed) || allowed e)
+    ∷ []
+
+bounded-is : (m : Meter) → bounded m ≡ true → Bounded m
+unfolding bounded
+bounded-is m h =
+    record {
+      ticks = ltb-true (m .ticks) 10 (and-l (ltb (m .ticks) 10) (leb (m .written) 10) h);
+      written = leb-true (m .written) 10 (and-r (ltb (m .ticks) 10) (leb (m .written) 10) h);
+    }
+
+is-bounded : (m : Meter) → Bounded m → bounded m ≡ true
+unfolding bounded
+is-bounded m b = rw (lt-ltb (m .ticks) 10 (b .ticks), le-leb (m .written) 10 (b .written))
+
+pub ranged-is : (e : End) → ranged e ≡ true → Ranged e
+unfolding ranged
+ranged-is e h =
+    let at : (n : ℕ) → _ = λ n. all-at (tests e) n h in
+    record {
+      stands = record {
+        settings = record { sound = at 0; vendor = ltb-true (e .settings .vendor) (2 ^ 32) (at 1) };
+        lost = ltb-true (e .link .lost) 50 (at 2);
+        peer = record { kept = leb-true (e .peer .kept) 2 (at 3); held = at 4; last = at 5 };
+        down = or-r (e .link .up) (blank (e .peer)) (at 6);
+        meter = bounded-is (e .meter) (at 8);
+        revision = ltb-true (e .own .revision) (2 ^ 16) (at 9);
+        number = ltb-true (e .own .number) (2 ^ 16) (at 10);
+      };
+      rests = or-l (idle (e .role)) (inAny e) (at 7);
+      owes = implies (e .own .owed) (allowed e) (at 11);
+    }
+
+pub is-ranged : (e : End) → Ranged e → ranged e ≡ true
+unfolding ranged
+is-ranged e r =
+    let s = r .stands in
+    rw (
+      s .settings .sound,
+      lt-ltb (e .settings .vendor) (2 ^ 32) (s .settings .vendor),
+      lt-ltb (e .link .lost) 50 (s .lost),
+      le-leb (e .peer .kept) 2 (s .peer .kept),
+      s .peer .held,
+      s .peer .last,
+      is-or-r (e .link .up) (blank (e .peer)) (s .down),
+      is-or-l (idle (e .role)) (inAny e) (r .rests),
+      is-bounded (e .meter) (s .meter),
+      lt-ltb (e .own .revision) (2 ^ 16) (s .revision),
+      lt-ltb (e .own .number) (2 ^ 16) (s .number),
+      is-implied (e .own .owed) (allowed e) (r .owes),
+    )
+
+-- ---- a fresh end
+
+pub fresh-is : (s : Settings) → Accepted s → Ranged (freshEnd s)
+unfolding freshEnd heldFits lastFits blank
+fresh-is s a =
+    record {
+      stands = record {
+        settings = a;
+        lost = omega arith;
+        peer = record { kept = omega arith; held = refl; last = refl };
+        down = λ _. refl;
+        meter = record { ticks = omega arith; written = omega arith };
+        revision = omega arith;
+        number = omega arith;
+      };
+      rests = λ _. refl;
+      owes = λ h. never h;
+    }
+
+-- settings that are taken make a ranged end
+pub fresh-ranged : (s : Settings) → sound s ≡ true → s .vendor < 2 ^ 32 → ranged (freshEnd s) ≡ true
+fresh-ranged s h v = is-ranged (freshEnd s) (fresh-is s (record { sound = h; vendor = v }))
+
+-- "refused settings yield no end"
+pub fresh-taken : (s : Settings) → sound s ≡ true → freshOf s ≡ Is (freshEnd s)
+unfolding freshOf
+fresh-taken s h = rw h
+
+pub fresh-refused : (s : Settings) → sound s ≡ false → freshOf s ≡ Refused 10
+unfolding freshOf
+fresh-refused s h = rw h

@@ -1,0 +1,98 @@
+-- The theorems are not empty: there are runs of one end in which it loops, writes ten frames in a second and has the eleventh
+-- refused, and loses its link.
+use Prim.Native.Nat.{ℕ}
+use mathlib.Core.Path.{_≡_, refl}
+use mathlib.Core.List.{List, [], _∷_, _++_}
+use mathlib.Core.Bool.{true}
+use lib.ListN.{replicate}
+use Rattle.frame.specs.Flags.{joined}
+use Rattle.frame.specs.Frame.{Body, information, loopback, headerAnswer, bodyAnswer, decode}
+use Rattle.frame.specs.Information.{local, informationAt, informationStep, informationWalk}
+use Rattle.frame.specs.Tlvs.{tlvAt, markAt}
+use Rattle.frame.specs.Walk.{walk}
+use Rattle.frame.specs.declared.Information.{Information}
+use Rattle.writer.specs.Encode.{headerOctets, informationOctets, encode}
+use Rattle.writer.specs.Plain.{plainFlags, plainInformation, plain, sized}
+use Rattle.writer.specs.Writing.{writes, written, messageOf}
+use Rattle.end.specs.Asking.{requestAnswer}
+use Rattle.end.specs.Bits.{bit}
+use Rattle.end.specs.Limit.{room, chargedMeter, closing, turnedMeter}
+use Rattle.end.specs.Loopback.{answered, obeys, mayStart, mayStop}
+use Rattle.end.specs.Peers.{hasAll, satisfies, satisfied, peerActive, peerLoopback, peerMaximum, keptFrom}
+use Rattle.end.specs.Ranges.{sound}
+use Rattle.end.specs.Sending.{remoteField, faultFlag, ownInformation, clearedInformation, clearedHeld}
+use Rattle.end.specs.declared.Settings.{Settings}
+use Rattle.end.specs.declared.Role.the-variants.{Looping}
+use Rattle.end.specs.declared.Discovery.the-variants.{ActiveSendLocal}
+use Rattle.link.specs.declared.Report.the-variants.{LinkUp}
+use Rattle.link.specs.Hearing.{learned, obeysCommand, obeyed, roleAfter, acted, isRepeat, shownEvents, shownOf, takenUp, taken, takenDue, concludedHeard, concludedHeardOutput, receiveOf, receiveOutput}
+use Rattle.link.specs.Reports.{linkUp, linkDown, reportedDue, reportOf, reportOutput}
+use Rattle.link.specs.Requests.{answerTo, granted, requestToSend, concludedRequest, concludedRequestOutput, asks, asksOutput}
+use Rattle.link.specs.Sending.{faultOf, flagsToSend, allowed, tlvsToSend, informationToSend, changed, dues, sends, sent, concluded, concludedOutput}
+use Rattle.link.specs.State.{freshEnd, discoveryOf, inAny, faulted, settled}
+use Rattle.link.specs.Ticks.{missed, ticked, tickedDue, tickOf, tickOutput}
+use Rattle.reach.specs.Machine.{Input, tick, report, receive, request, tell, Call, outcomeOf}
+use Rattle.reach.specs.Runs.{after, framesIn}
+
+-- all definitions of the machine, opened at once
+unfoldable machine : Unit {0}
+unfolding joined headerAnswer bodyAnswer decode informationAt informationStep informationWalk tlvAt markAt walk headerOctets informationOctets encode plainFlags plainInformation plain sized writes written requestAnswer bit room chargedMeter closing turnedMeter answered obeys mayStart mayStop hasAll satisfies satisfied peerActive peerLoopback peerMaximum keptFrom sound remoteField faultFlag ownInformation clearedInformation clearedHeld learned obeysCommand obeyed roleAfter acted isRepeat shownEvents shownOf takenUp taken takenDue concludedHeard concludedHeardOutput receiveOf receiveOutput linkUp linkDown reportedDue reportOf reportOutput answerTo granted requestToSend concludedRequest concludedRequestOutput asks asksOutput faultOf flagsToSend allowed tlvsToSend informationToSend changed dues sends sent concluded concludedOutput freshEnd discoveryOf inAny faulted settled missed ticked tickedDue tickOf tickOutput
+machine = tt
+
+-- an active end that may be put in loopback, and a peer of the same kind
+abbrev settings : Settings
+settings = record { configuration = 5; size = 1518; oui = 1; vendor = 2; source = 4; required = 4 }
+
+abbrev peer : Information
+peer = record { version = 1; revision = 0; state = 0; configuration = 5; oampdu = 1518; oui = 1; vendor = 2 }
+
+-- 60 octets are lent
+abbrev takes : Input → Call
+takes i = record { input = i; out = replicate 60 0 }
+
+-- the peer's frames say that its discovery is complete
+abbrev hears : Body → Call
+hears b = takes (receive (encode (messageOf 3 16 b)))
+
+abbrev tells : Call
+tells = takes (request (tell 1 (replicate 39 0)))
+
+-- the link comes up, and the peer's Local TLV and its enable are heard: three frames are written
+abbrev looped : List Call
+looped = hears (loopback 1) ∷ hears (information (local peer ∷ [])) ∷ takes (report LinkUp) ∷ []
+
+-- seven requests more
+abbrev busy : List Call
+busy = replicate 7 tells ++ looped
+
+-- so many ticks with nothing heard
+abbrev quiet : ℕ → List Call
+quiet n = replicate n (takes tick) ++ looped
+
+pub record Witness : Type 0 where
+  pub taken : sound settings ≡ true
+  -- an end loops
+  pub loops : after settings looped .role ≡ Looping
+  -- ten frames are written, and a request for the eleventh is 13
+  pub ten : framesIn settings busy ≡ 10
+  pub eleventh : outcomeOf tells (after settings busy) .answer ≡ 13
+  -- the tenth tick closes the second, and its own frame belongs to the new one
+  pub ninth-tick : framesIn settings (quiet 9) ≡ 3
+  pub tenth-tick : framesIn settings (quiet 10) ≡ 1
+  -- a lost-link count of 49 stays, 50 enters FAULT
+  pub forty-nine : after settings (quiet 49) .role ≡ Looping
+  pub fifty : discoveryOf (after settings (quiet 50)) ≡ ActiveSendLocal
+
+pub witness : Witness
+unfolding machine
+witness =
+    record {
+      taken = refl;
+      loops = refl;
+      ten = refl;
+      eleventh = refl;
+      ninth-tick = refl;
+      tenth-tick = refl;
+      forty-nine = refl;
+      fifty = refl;
+    }

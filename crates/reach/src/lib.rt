@@ -1,0 +1,2 @@
+// What is true of every end that calls have made of a fresh one. This crate has no code: specs/Machine.antt gathers the calls
+// of `link` into one machine, specs/Runs.antt says what an end's history is, and proofs/ holds the theorems.
