@@ -70,8 +70,8 @@ pub enum Report {
     CriticalEvent(bool),
 }
 
-// What a receive shows: nothing, the header of an accepted frame that the client may go on to read, or the header and the
-// number of a notification whose events are new.
+// What a receive shows: nothing, the header of an accepted frame, or the header and the number of a notification whose
+// events are new. A notification that shows its header only is a repeat or came outside SEND_ANY: its events are not taken.
 pub enum Shown {
     Nothing,
     Frame(Header),
