@@ -24,7 +24,7 @@ use Rattle.reach.specs.Runs.{after, count, wrote, isTick, acceptedTick, 
 use Rattle.reach.proofs.Bools.{whether}
 use Rattle.reach.proofs.Coming.{noted, Concludes, Comes, refuses, concludes, grants, comes}
 use Rattle.reach.proofs.Standing.{Accepted, Bounded, Ranged, ranged-is}
-use Rattle.reach.proofs.Keeping.{OfOctets, turned-bounded}
+use Rattle.reach.proofs.Keeping.{OfOctets, InputFits, octets-fit, turned-bounded}
 use Rattle.reach.proofs.Staying.{Lasting, meterBy, made-stays, asked-stays}
 use Rattle.reach.proofs.Ranging.{AllOfOctets, run-is}
 use Rattle.reach.proofs.Framing.{Silent, Writes, sent-outcome, kept-outcome, sends-writes, sends-none, grants-writes}
@@ -39,12 +39,12 @@ Metered c e = outcomeOf c e .end .meter ≡ cond (wrote c e) (chargedMeter (open
 
 -- ---- whether a frame was written
 
-writes-wrote : (c : Call) (e : End) → Writes c e → wrote c e ≡ true
+pub writes-wrote : (c : Call) (e : End) → Writes c e → wrote c e ≡ true
 writes-wrote c e w =
     let long = encode-length (meant c e) (w .plainly) .0 in
     rw (ne-eqb (outcomeOf c e .length) 0 (λ z. omega (arith, w .octets)))
 
-silent-wrote : (c : Call) (e : End) → Silent c e → wrote c e ≡ false
+pub silent-wrote : (c : Call) (e : End) → Silent c e → wrote c e ≡ false
 silent-wrote c e s = rw (s .none)
 
 -- ---- each call
@@ -71,7 +71,7 @@ pub noted-meter : (c : Call) (e : End) (h : Concludes c e) → noted e (h .made)
 unfolding dues
 noted-meter c e h = ap (λ (k : Lasting). k .meter) (made-stays e (c .input) (h .made) (h .how))
 
-by-comes : (c : Call) (e : End) → OfOctets (c .input) → Ranged e → Comes c e → Metered c e
+by-comes : (c : Call) (e : End) → InputFits (c .input) → Ranged e → Comes c e → Metered c e
 unfolding sent granted dues
 by-comes c e o r (refuses h) =
     let same = opened-refused c e (λ z. h .some (sym (ap (λ (k : Outcome). k .answer) (h .outcome)) ∙ z)) in
@@ -95,7 +95,7 @@ by-comes c e o r (grants h) =
     rw w (ap (λ (k : Outcome). k .end .meter) (h .outcome) ∙ ap chargedMeter (same ∙ ap (λ (i : Input). meterBy i (e .meter)) (sym (h .how)) ∙ m))
 
 pub call-meter : (c : Call) (e : End) → OfOctets (c .input) → ranged e ≡ true → Metered c e
-call-meter c e o r = by-comes c e o (ranged-is e r) (comes c e)
+call-meter c e o r = by-comes c e (octets-fit (c .input) o) (ranged-is e r) (comes c e)
 
 -- ---- the numbers
 
@@ -159,20 +159,25 @@ may-turn m t n a true =
     }
 may-turn m t n a false = record { ticks = omega (arith, a .ticks); written = a .written }
 
+-- after a call
+pub keeps-agrees : (c : Call) (e : End) → InputFits (c .input) → Ranged e → (t n : ℕ) → Agrees (e .meter) t n
+    → Agrees (outcomeOf c e .end .meter) (t + count (acceptedTick c e))
+    (cond (acceptedTick c e && eqb ((t + count (acceptedTick c e)) % 10) 0) 0 n + count (wrote c e))
+keeps-agrees c e o r t n a =
+    let g = may-turn (e .meter) t n a (acceptedTick c e) in
+    let few = may-turn-bounded (e .meter) (acceptedTick c e) (r .stands .meter) .written in
+    let m = by-comes c e o r (comes c e) in
+    record {
+      ticks = ap (λ (k : Meter). k .ticks) m ∙ charged-ticks (opened c e) (wrote c e) ∙ g .ticks;
+      written = ap (λ (k : Meter). k .written) m ∙ charged-written (opened c e) (wrote c e) few ∙ ap (λ (k : ℕ). k + count (wrote c e)) (g .written);
+    }
+
 pub run-agrees : (s : Settings) → Accepted s → (cs : List Call) → AllOfOctets cs
     → Agrees (after s cs .meter) (ticksIn s cs) (framesIn s cs)
 unfolding freshEnd
 run-agrees s a [] o = record { ticks = refl; written = refl }
 run-agrees s a (c ∷ cs) o =
-    let e = after s cs in
-    let r = run-is s a cs (o .1) in
-    let g = may-turn (e .meter) (ticksIn s cs) (framesIn s cs) (run-agrees s a cs (o .1)) (acceptedTick c e) in
-    let few = may-turn-bounded (e .meter) (acceptedTick c e) (r .stands .meter) .written in
-    let m = by-comes c e (o .0) r (comes c e) in
-    record {
-      ticks = ap (λ (k : Meter). k .ticks) m ∙ charged-ticks (opened c e) (wrote c e) ∙ g .ticks;
-      written = ap (λ (k : Meter). k .written) m ∙ charged-written (opened c e) (wrote c e) few ∙ ap (λ (k : ℕ). k + count (wrote c e)) (g .written);
-    }
+    keeps-agrees c (after s cs) (octets-fit (c .input) (o .0)) (run-is s a cs (o .1)) (ticksIn s cs) (framesIn s cs) (run-agrees s a cs (o .1))
 
 -- the written-frames number is the count over the history
 pub run-counts : (s : Settings) → Accepted s → (cs : List Call) → AllOfOctets cs → after s cs .meter .written ≡ framesIn s cs

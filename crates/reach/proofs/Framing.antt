@@ -26,7 +26,7 @@ use Rattle.reach.specs.Machine.{Request, Input, Call, askedOf, outcomeOf
 use Rattle.reach.proofs.Bools.{whether}
 use Rattle.reach.proofs.Coming.{Made, ticks, reports, hears, noted, Concludes, Grants, Comes, refuses, concludes, grants, comes}
 use Rattle.reach.proofs.Standing.{Stands, Ranged, ranged-is}
-use Rattle.reach.proofs.Keeping.{OfOctets}
+use Rattle.reach.proofs.Keeping.{OfOctets, InputFits, octets-fit}
 use Rattle.reach.proofs.Staying.{Lasting, made-stays, asked-stays}
 use Rattle.reach.proofs.Passing.{Passes, passes-grant}
 use Rattle.reach.proofs.Ranging.{noted-ranged, asked-ranged}
@@ -119,7 +119,7 @@ module _ (c : Call) (e : End) (h : Concludes c e) where
         λ i. messageOf (sym source i) (flags i) (body i)
 
     -- an owed frame for which there is room is written: the end's Information frame, 60 octets long
-    module _ (o : OfOctets (c .input)) (r : Ranged e) where
+    module _ (o : InputFits (c .input)) (r : Ranged e) where
       abbrev next-stands : Stands next
       next-stands = noted-ranged e (c .input) (h .made) (h .how) o r .stands
 
@@ -145,7 +145,7 @@ module _ (c : Call) (e : End) (h : Concludes c e) where
 pub concludes-octets : (c : Call) (e : End) (h : Concludes c e) → OfOctets (c .input) → ranged e ≡ true
     → outcomeOf c e .length ≡ cond (sends (noted e (h .made))) 60 0
 concludes-octets c e h o r =
-    whether (sends (noted e (h .made))) (λ t. rw t (sends-60 c e h t o (ranged-is e r))) (λ f. rw f (sends-none c e h f .none))
+    whether (sends (noted e (h .made))) (λ t. rw t (sends-60 c e h t (octets-fit (c .input) o) (ranged-is e r))) (λ f. rw f (sends-none c e h f .none))
 
 -- ---- a granted request
 
@@ -185,14 +185,17 @@ module _ (c : Call) (e : End) (r : Ranged e) (h : Grants c e) where
 
 -- ---- every call
 
-by-comes : (c : Call) (e : End) → OfOctets (c .input) → Ranged e → Comes c e → Silent c e ⊎ Writes c e
+by-comes : (c : Call) (e : End) → InputFits (c .input) → Ranged e → Comes c e → Silent c e ⊎ Writes c e
 by-comes c e o r (refuses h) = inl (record { none = ap (λ (k : Outcome). k .length) (h .outcome); output = h .output })
 by-comes c e o r (concludes h) = whether (sends (noted e (h .made))) (λ t. inr (sends-writes c e h t o r)) (λ f. inl (sends-none c e h f))
 by-comes c e o r (grants h) = inr (grants-writes c e r h)
 
 -- a call writes no frame, or the one that is meant
+pub ranged-writes : (c : Call) (e : End) → InputFits (c .input) → Ranged e → Silent c e ⊎ Writes c e
+ranged-writes c e o r = by-comes c e o r (comes c e)
+
 pub silent-or-writes : (c : Call) (e : End) → OfOctets (c .input) → ranged e ≡ true → Silent c e ⊎ Writes c e
-silent-or-writes c e o r = by-comes c e o (ranged-is e r) (comes c e)
+silent-or-writes c e o r = ranged-writes c e (octets-fit (c .input) o) (ranged-is e r)
 
 -- and does what its length says
 pub call-writes : (c : Call) (e : End) → OfOctets (c .input) → ranged e ≡ true → (outcomeOf c e .length ≡ 0 → ⊥) → Writes c e

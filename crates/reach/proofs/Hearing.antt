@@ -1,11 +1,11 @@
--- What is heard of a frame of octets fits the widths that an end keeps it in.
+-- What is heard of a frame of octets, or of one in plain form, fits the widths that an end keeps it in.
 use Prim.Native.Nat.{ℕ, _^_, _<_, _≤_, _/_, _%_}
 use mathlib.Core.Path.{_≡_, refl}
 use mathlib.Core.List.{List, [], _∷_}
 use mathlib.Core.Bool.{true}
 use native.Mathlib.Omega.{arith}
-use borrow.Author.Tests.{eqb-false, lt-ltb}
-use lib.Dec.{eqb}
+use borrow.Author.Tests.{eqb-false, ltb-true, lt-ltb}
+use lib.Dec.{ltb, eqb}
 use Rattle.frame.specs.Information.{InformationPart, local, remote, keepAll, nothing}
 use Rattle.frame.specs.Frame.{Body, information, notification, request, response, loopback, organization, Message, accepted, decode}
 use Rattle.frame.specs.declared.Found.{Found}
@@ -13,9 +13,9 @@ use Rattle.frame.specs.declared.Held.{Held}
 use Rattle.frame.specs.declared.Held.the-variants.{Nothing, Is}
 use Rattle.frame.proofs.Numbers.{Octets}
 use Rattle.frame.proofs.Walks.{by-cond}
-use Rattle.writer.specs.Plain.{every}
+use Rattle.writer.specs.Plain.{every, plainBody}
 use Rattle.writer.proofs.Bools.{and-l, and-r}
-use Rattle.writer.proofs.Informing.{fitPart}
+use Rattle.writer.proofs.Informing.{fitPart, plain-parts}
 use Rattle.writer.proofs.Fitting.{FitsBody, shown-fits}
 use Rattle.end.specs.Peers.{keptFrom, recordFrom}
 use Rattle.link.specs.declared.Last.{Last}
@@ -55,6 +55,19 @@ body-heard (response cs) h = record { local = refl; number = tt }
 body-heard (loopback n) h = record { local = refl; number = tt }
 body-heard (organization oui x) h = record { local = refl; number = tt }
 
+-- of a body in plain form
+pub plain-heard : (b : Body) → plainBody b ≡ true → HeardFits b
+unfolding heldFits
+plain-heard (information ps) h = record { local = local-fits nothing ps refl (plain-parts ps h .fits); number = tt }
+plain-heard (notification n es) h =
+    let small : ltb n (256 ^ 2) ≡ true = search and-l in
+    record { local = refl; number = ltb-true n (256 ^ 2) small }
+plain-heard (request ds) h = record { local = refl; number = tt }
+plain-heard (response cs) h = record { local = refl; number = tt }
+plain-heard (loopback n) h = record { local = refl; number = tt }
+plain-heard (organization oui x) h = record { local = refl; number = tt }
+
+-- of a frame of octets
 pub heard-fits : (f : List ℕ) (m : Message) → Octets f → decode f ≡ accepted m → HeardFits (m .body)
 heard-fits f m o d = body-heard (m .body) (shown-fits f m o d .body)
 

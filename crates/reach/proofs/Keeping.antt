@@ -1,7 +1,6 @@
 -- What each call makes of an end stands as that end stood: block by block.
-use Prim.Native.Nat.{ℕ, _<_}
+use Prim.Native.Nat.{_<_}
 use mathlib.Core.Path.{_≡_, refl, _∙_}
-use mathlib.Core.List.{List}
 use mathlib.Core.Bool.{Bool, true, false}
 use native.Mathlib.Omega.{arith}
 use borrow.Author.Tests.{leb-false}
@@ -30,7 +29,7 @@ use Rattle.reach.specs.Machine.{Input, tick, report, receive, request}
 use Rattle.reach.proofs.Bools.{not-both}
 use Rattle.reach.proofs.Coming.{localIn, actionIn, heardIn, Made, ticks, reports, hears}
 use Rattle.reach.proofs.Standing.{Fitting, Bounded, relinked, remetered, Stands, Rests}
-use Rattle.reach.proofs.Hearing.{heard-fits, kept-fits, record-fits, last-fits}
+use Rattle.reach.proofs.Hearing.{HeardFits, heard-fits, kept-fits, record-fits, last-fits}
 
 -- ---- the moves
 
@@ -118,26 +117,26 @@ by-taken m e P down learns acts =
     (λ up. by-cond (λ (t : Taken). P (t .end)) (inAny (learned m e)) (λ t. acts up t _) (λ n. learns up n))
     down
 
-module _ (f : List ℕ) (m : Message) (o : Octets f) (d : decode f ≡ accepted m) (e : End) (s : Stands e) where
+module _ (m : Message) (h : HeardFits (m .body)) (e : End) (s : Stands e) where
   learned-stands : e .link .up ≡ true → Stands (learned (heardIn m) e)
   unfolding learned settled
   learned-stands up =
       relinked s (omega arith)
       (record {
         kept = kept-fits (m .flags) (e .peer .kept) (s .peer .kept);
-        held = record-fits (localIn (m .body)) (e .peer .held) (heard-fits f m o d .local) (s .peer .held);
+        held = record-fits (localIn (m .body)) (e .peer .held) (h .local) (s .peer .held);
         last = s .peer .last;
       })
       (λ z. not-both up z)
 
   acted-stands : (b : Bool) (x : End) → x .link .up ≡ true → Stands x → Stands (acted (heardIn m) b x)
   unfolding acted
-  acted-stands b x up h =
-      relinked h (h .lost)
+  acted-stands b x up t =
+      relinked t (t .lost)
       (record {
-        kept = h .peer .kept;
-        held = h .peer .held;
-        last = last-fits (actionIn (m .body)) (x .peer .last) (heard-fits f m o d .number) (h .peer .last);
+        kept = t .peer .kept;
+        held = t .peer .held;
+        last = last-fits (actionIn (m .body)) (x .peer .last) (h .number) (t .peer .last);
       })
       (λ z. not-both up z)
 
@@ -163,10 +162,23 @@ OfOctets (report r) = Unit {0}
 OfOctets (receive f) = Octets f
 OfOctets (request q) = Unit {0}
 
-pub made-stands : (e : End) (i : Input) (t : Taken) → Made e i t → OfOctets i → Stands e → Stands (t .end)
+-- what is heard of a frame fits what is kept of it, as it does of every frame of octets
+abbrev pub InputFits : Input → Type 0
+InputFits tick = Unit {0}
+InputFits (report r) = Unit {0}
+InputFits (receive f) = (m : Message) → decode f ≡ accepted m → HeardFits (m .body)
+InputFits (request q) = Unit {0}
+
+pub octets-fit : (i : Input) → OfOctets i → InputFits i
+octets-fit tick o = tt
+octets-fit (report r) o = tt
+octets-fit (receive f) o = λ m d. heard-fits f m o d
+octets-fit (request q) o = tt
+
+pub made-stands : (e : End) (i : Input) (t : Taken) → Made e i t → InputFits i → Stands e → Stands (t .end)
 made-stands e i t ticks o s = ticked-stands e s
 made-stands e i t (reports r) o s = reported-stands r e s
-made-stands e i t (hears f m d) o s = taken-stands f m o d e s
+made-stands e i t (hears f m d) o s = taken-stands m (o m d) e s
 
 pub made-rests : (e : End) (i : Input) (t : Taken) → Made e i t → Rests e → Rests (t .end)
 made-rests e i t ticks h = ticked-rests e

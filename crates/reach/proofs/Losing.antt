@@ -30,11 +30,11 @@ pub record Footing : Type 0 where
 abbrev pub footingOf : End → Footing
 footingOf e = record { settings = e .settings; link = e .link; peer = e .peer }
 
-abbrev standing : Footing → Discovery
+abbrev pub standing : Footing → Discovery
 standing f =
     standsAt (f .link .up) (bit 0 (f .settings .configuration)) (held (f .peer .held)) (satisfied (f .settings) (f .peer .held)) (eqb (f .peer .kept) 2)
 
-stands-on : (e : End) → discoveryOf e ≡ standing (footingOf e)
+pub stands-on : (e : End) → discoveryOf e ≡ standing (footingOf e)
 unfolding discoveryOf
 stands-on e = refl
 

@@ -28,7 +28,7 @@ use Rattle.reach.specs.Runs.{after}
 use Rattle.reach.proofs.Bools.{not-both, whether}
 use Rattle.reach.proofs.Coming.{Made, noted, Comes, refuses, concludes, grants, comes}
 use Rattle.reach.proofs.Standing.{Accepted, Bounded, remetered, renumbered, Stands, Rests, Ranged, ranged-is, is-ranged, fresh-is}
-use Rattle.reach.proofs.Keeping.{OfOctets, made-stands, made-rests}
+use Rattle.reach.proofs.Keeping.{OfOctets, InputFits, octets-fit, made-stands, made-rests}
 use Rattle.reach.proofs.Staying.{Lasting, asked-stays}
 use Rattle.reach.proofs.Passing.{passes-grant}
 
@@ -82,7 +82,7 @@ asked-stands (variables ds) e s = s
 asked-stands (notify vs) e s = renumbered s (s .revision) (wraps (e .own .number))
 asked-stands (tell oui x) e s = s
 
-asked-any : (q : Request) (e : End) → inAny (askedOf q e .next) ≡ inAny e
+pub asked-any : (q : Request) (e : End) → inAny (askedOf q e .next) ≡ inAny e
 unfolding inAny discoveryOf
 asked-any start e = refl
 asked-any stop e = refl
@@ -102,7 +102,7 @@ granted-ranged before e h r =
 -- ---- every call
 
 -- what a tick, a report or an accepted frame comes to before its frame is written
-pub noted-ranged : (e : End) (i : Input) (t : Taken) → Made e i t → OfOctets i → Ranged e → Ranged (noted e t)
+pub noted-ranged : (e : End) (i : Input) (t : Taken) → Made e i t → InputFits i → Ranged e → Ranged (noted e t)
 noted-ranged e i t h o r = dues-ranged e (t .due) (t .end) (made-stands e i t h o (r .stands)) (made-rests e i t h (r .rests))
 
 -- what a granted request comes to
@@ -112,7 +112,7 @@ asked-ranged q e any roomy r =
     granted-ranged e x (rw (ap (λ (k : Lasting). k .meter) (asked-stays q e)) roomy)
     (dues-ranged e false x (asked-stands q e (r .stands)) (λ n. not-both any (sym (asked-any q e) ∙ n)))
 
-by-comes : (c : Call) (e : End) → OfOctets (c .input) → Ranged e → Comes c e → Ranged (outcomeOf c e .end)
+by-comes : (c : Call) (e : End) → InputFits (c .input) → Ranged e → Comes c e → Ranged (outcomeOf c e .end)
 by-comes c e o r (refuses h) = rw (h .outcome) r
 by-comes c e o r (concludes h) =
     rw (h .outcome)
@@ -122,11 +122,11 @@ by-comes c e o r (grants h) =
     rw (h .outcome) (asked-ranged (h .asked) e (p .any) (p .roomy) r)
 
 -- a call keeps it
-pub keeps-ranged : (c : Call) (e : End) → OfOctets (c .input) → Ranged e → Ranged (outcomeOf c e .end)
+pub keeps-ranged : (c : Call) (e : End) → InputFits (c .input) → Ranged e → Ranged (outcomeOf c e .end)
 keeps-ranged c e o r = by-comes c e o r (comes c e)
 
 pub call-ranged : (c : Call) (e : End) → OfOctets (c .input) → ranged e ≡ true → ranged (outcomeOf c e .end) ≡ true
-call-ranged c e o h = is-ranged (outcomeOf c e .end) (keeps-ranged c e o (ranged-is e h))
+call-ranged c e o h = is-ranged (outcomeOf c e .end) (keeps-ranged c e (octets-fit (c .input) o) (ranged-is e h))
 
 -- every frame of a list of calls is of octets
 abbrev pub AllOfOctets : List Call → Type 0
@@ -136,7 +136,7 @@ AllOfOctets (c ∷ cs) = OfOctets (c .input) × AllOfOctets cs
 -- and so does any list of calls
 pub run-is : (s : Settings) → Accepted s → (cs : List Call) → AllOfOctets cs → Ranged (after s cs)
 run-is s a [] o = fresh-is s a
-run-is s a (c ∷ cs) o = keeps-ranged c (after s cs) (o .0) (run-is s a cs (o .1))
+run-is s a (c ∷ cs) o = keeps-ranged c (after s cs) (octets-fit (c .input) (o .0)) (run-is s a cs (o .1))
 
 pub run-ranged : (s : Settings) → Accepted s → (cs : List Call) → AllOfOctets cs → ranged (after s cs) ≡ true
 run-ranged s a cs o = is-ranged (after s cs) (run-is s a cs o)

@@ -35,7 +35,7 @@ use Rattle.reach.specs.Machine.{Input, tick, report, receive, request, t
 use Rattle.reach.specs.Runs.{after, framesIn}
 
 -- all definitions of the machine, opened at once
-unfoldable machine : Unit {0}
+unfoldable pub machine : Unit {0}
 unfolding joined headerAnswer bodyAnswer decode informationAt informationStep informationWalk tlvAt markAt walk headerOctets informationOctets encode plainFlags plainInformation plain sized writes written requestAnswer bit room chargedMeter closing turnedMeter answered obeys mayStart mayStop hasAll satisfies satisfied peerActive peerLoopback peerMaximum keptFrom sound remoteField faultFlag ownInformation clearedInformation clearedHeld learned obeysCommand obeyed roleAfter acted isRepeat shownEvents shownOf takenUp taken takenDue concludedHeard concludedHeardOutput receiveOf receiveOutput linkUp linkDown reportedDue reportOf reportOutput answerTo granted requestToSend concludedRequest concludedRequestOutput asks asksOutput faultOf flagsToSend allowed tlvsToSend informationToSend changed dues sends sent concluded concludedOutput freshEnd discoveryOf inAny faulted settled missed ticked tickedDue tickOf tickOutput
 machine = tt
 

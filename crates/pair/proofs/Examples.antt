@@ -1,0 +1,11 @@
+-- The paper's proved examples, under a single statement.
+use mathlib.Core.Path.{_≡_, refl}
+use mathlib.Core.Bool.{true}
+use Rattle.frame.specs.Variables.{descriptorStep, containerStep}
+use Rattle.link.specs.Ranges.{blank}
+use Rattle.reach.proofs.Witness.{machine}
+use Rattle.pair.specs.Examples.{rows, allRight}
+
+pub examples-hold : allRight rows ≡ true
+unfolding machine descriptorStep containerStep blank
+examples-hold = refl

@@ -1,0 +1,140 @@
+-- An accepted call at a side keeps what holds of it, and its moment is an honest one. A frame that is received was written by
+-- the other side.
+use Prim.Native.Nat.{ℕ}
+use mathlib.Core.Path.{_≡_, refl, sym, ap, _∙_, subst}
+use mathlib.Core.List.{List, [], _∷_}
+use mathlib.Core.Logic.{⊎-elim}
+use Rattle.frame.specs.Frame.{Message, decode}
+use Rattle.end.specs.Peers.{held}
+use Rattle.end.specs.declared.Discovery.the-variants.{SendAny}
+use Rattle.end.specs.declared.Role.the-variants.{Looping}
+use Rattle.link.specs.declared.End.{End}
+use Rattle.link.specs.State.{discoveryOf}
+use Rattle.reach.specs.Machine.{Input, tick, report, receive, request, Call, outcomeOf}
+use Rattle.reach.proofs.Keeping.{InputFits}
+use Rattle.reach.proofs.Standing.{Ranged}
+use Rattle.reach.proofs.Ranging.{keeps-ranged}
+use Rattle.reach.proofs.Framing.{ranged-writes}
+use Rattle.pair.specs.Lists.{Some, there, All, none-left}
+use Rattle.pair.specs.System.{Side, other, Moment, momentOf}
+use Rattle.pair.specs.Safe.{Enable, Complete, Enabled, quiet}
+use Rattle.pair.proofs.Lists.{some-map, meet, some-out}
+use Rattle.pair.proofs.Effects.{Face, same-discovery, Hears, Effect, effect-of}
+use Rattle.pair.proofs.Peers.{becomes-two, Lost, becomes-lost}
+use Rattle.pair.proofs.Looping.{SaysEnable, becomes-looping}
+use Rattle.pair.proofs.InSendAny.{is-any, looping-any, any-takes}
+use Rattle.pair.proofs.Frames.{wrote-fits, wrote-enable}
+use Rattle.pair.proofs.Limit.{agrees-after}
+use Rattle.pair.proofs.Invariant.{Honest, Keeps, same-self, other-other, both, stay-goes-on}
+
+-- the side wrote the frame
+pub record Wrote (s : Side) (f : List ℕ) (m : Moment) : Type 0 where
+  pub side : m .side ≡ s
+  pub wrote : m .wrote ≡ f
+
+-- "never alters, invents or turns back one"
+abbrev pub Delivered : Side → List Moment → Input → Type 0
+Delivered s past tick = Unit {0}
+Delivered s past (report r) = Unit {0}
+Delivered s past (receive f) = Some (Wrote (other s) f) past
+Delivered s past (request q) = Unit {0}
+
+-- what is read of it fits
+input-fits : (s : Side) (past : List Moment) → All (Honest past) past → (i : Input) → Delivered s past i → InputFits i
+input-fits s past a tick d = tt
+input-fits s past a (report r) d = tt
+input-fits s past a (receive f) d = λ x r. some-out (λ m h. h .0 .fits x (ap decode (h .1 .wrote) ∙ r)) (meet a d)
+input-fits s past a (request q) d = tt
+
+module _ (s : Side) (c : Call) (past : List Moment) (e : End) (k : Keeps s past e) (a : All (Honest past) past) (d : Delivered s past (c .input)) (z : outcomeOf c e .answer ≡ 0) where
+  abbrev after : End
+  after = outcomeOf c e .end
+
+  abbrev moment : Moment
+  moment = momentOf s c e
+
+  abbrev fits : InputFits (c .input)
+  fits = input-fits s past a (c .input) d
+
+  abbrev effect : Effect c e
+  effect = effect-of c e z
+
+  ranged-after : Ranged after
+  ranged-after = keeps-ranged c e fits (k .ranged)
+
+  -- what was heard was written by the other side
+  heard-written : {Says : Message → Type 0} (h : Hears (c .input) Says) → Some (Wrote (other s) (h .frame)) past
+  heard-written h = subst (Delivered s past) (h .received) d
+
+  -- the kept field
+  complete-after : after .peer .kept ≡ 2 → Some (Complete (other s)) past
+  complete-after two =
+      let two′ = ap (λ (f : Face). f .footing .peer .kept) (sym (effect .face)) ∙ two in
+      ⊎-elim (k .complete)
+      (λ h. some-map (λ m w. record { side = w .side; message = h .message; reads = ap decode (w .wrote) ∙ h .reads; complete = h .says }) (heard-written h))
+      (becomes-two e (c .input) (effect .next) (effect .how) two′)
+
+  any-complete : discoveryOf after ≡ SendAny → Some (Complete (other s)) past
+  any-complete any = complete-after (any-takes after any .1)
+
+  -- an enable that was heard, and the moments that may have sent it
+  newly : discoveryOf after ≡ SendAny → Hears (c .input) SaysEnable → Enabled s (moment ∷ past)
+  newly any h =
+      let enable : (m : Moment) → Wrote (other s) (h .frame) m → Enable (m .wrote) =
+      λ m w. record { message = h .message; reads = ap decode (w .wrote) ∙ h .reads; enables = h .says } in
+      let senders = meet a (heard-written h) in
+      record {
+        newer = [];
+        moment = moment;
+        older = past;
+        split = refl;
+        stays = none-left;
+        side = refl;
+        stands = any;
+        frame = h .frame;
+        received = h .received;
+        enable = record { message = h .message; reads = h .reads; enables = h .says };
+        sent = some-map
+            (λ m x. let n = x .0 .enable (enable m (x .1)) in record { side = x .1 .side; wrote = x .1 .wrote; active = n .0; any = n .1 }) senders;
+        complete = both (λ (t : Side). Some (Complete t) past) s
+            (some-out
+            (λ m x.
+            subst (λ (t : Side). Some (Complete t) past) (ap other (x .1 .side) ∙ other-other s)
+            (x .0 .complete (x .0 .enable (enable m (x .1)) .1)))
+            senders)
+            (any-complete any);
+      }
+
+  enabled-after : after .role ≡ Looping → Enabled s (moment ∷ past)
+  enabled-after l =
+      let any = looping-any after ranged-after l in
+      ⊎-elim (λ r. stay-goes-on s moment past (λ _. any) (k .enabled r)) (newly any)
+      (becomes-looping e (c .input) (effect .next) (effect .how) (ap (λ (f : Face). f .role) (sym (effect .face)) ∙ l))
+
+  lost-after : Lost (quiet s (moment ∷ past)) after
+  lost-after =
+      let l = becomes-lost e (k .ranged .stands) (quiet s past) (k .lost) (c .input) (effect .next) (effect .how) in
+      let f = effect .face in
+      rw (same-self s)
+      (λ h. ap (λ (x : Face). x .footing .link .lost) f ∙ l (ap (λ (x : Face). held (x .footing .peer .held)) (sym f) ∙ h))
+
+  pub keeps-after : Keeps s (moment ∷ past) after
+  keeps-after =
+      record {
+        ranged = ranged-after;
+        agrees = agrees-after s c e past fits (k .ranged) z (k .agrees);
+        complete = λ two. there (complete-after two);
+        lost = lost-after;
+        enabled = enabled-after;
+      }
+
+  pub honest-after : Honest (moment ∷ past) moment
+  honest-after =
+      let w = ranged-writes c e fits (k .ranged) in
+      record {
+        complete = λ any. there (any-complete any);
+        enable = λ n.
+            let p = wrote-enable s c e w effect n in
+            (p .0, same-discovery after (effect .next) (effect .face) ∙ is-any (effect .next) (p .1));
+        fits = wrote-fits s c e w;
+      }

@@ -1,0 +1,130 @@
+-- The paper's proved examples, as a single table: "lengths 59 (1), 60, 1,514 (accepted), 1,515 (1) in a Loopback frame; code 05 (5);
+-- TLV 01 length 15 (6); two Local TLVs (7); command 0 (8); width 00 is 128, 7F is 127, 80 none; revision 65,535 then 0; lost-link count
+-- 49 stays, 50 enters FAULT; eleventh frame (13)". Every number is computed from the definitions that the contracts cite.
+use Prim.Native.Nat.{ℕ, _-_}
+use mathlib.Core.List.{List, [], _∷_, _++_}
+use mathlib.Core.Bool.{Bool, true, false, _&&_}
+use lib.Dec.{eqb}
+use lib.ListN.{length, replicate}
+use Rattle.frame.specs.Flags.{bitOf}
+use Rattle.frame.specs.Frame.{decode, readingOf}
+use Rattle.frame.specs.Variables.{containerStep}
+use Rattle.frame.specs.declared.ContainerStep.{ContainerStep}
+use Rattle.frame.specs.declared.ContainerStep.the-variants.{End as NoMore, Broken, Value, Indication}
+use Rattle.frame.specs.declared.Held.the-variants.{Is}
+use Rattle.frame.specs.declared.Reading.{Reading}
+use Rattle.frame.specs.declared.Reading.the-variants.{Refused, Information as InformationIs, Notification, Request, Response, Loopback, Organization}
+use Rattle.end.specs.declared.Role.the-variants.{Idle}
+use Rattle.link.specs.declared.End.{End}
+use Rattle.link.specs.declared.Last.the-variants.{Never}
+use Rattle.link.specs.declared.Outcome.{Outcome}
+use Rattle.link.specs.Ranges.{blank}
+use Rattle.reach.specs.Machine.{Input, tick, request, start, outcomeOf}
+
+-- ---- frames that are read
+
+-- a header with a code, the first octets of a body, and zeros up to some length
+abbrev frame : ℕ → List ℕ → ℕ → List ℕ
+frame code body octets =
+    let f : List ℕ = 0x01 ∷ 0x80 ∷ 0xc2 ∷ 0 ∷ 0 ∷ 0x02 ∷ 0x02 ∷ 0 ∷ 0 ∷ 0 ∷ 0 ∷ 0x01 ∷ 0x88 ∷ 0x09 ∷ 3 ∷ 0 ∷ 0x50 ∷ code ∷ body in
+    f ++ replicate (octets - length f) 0
+
+-- the number of a refusal, 0 for a frame that is accepted
+abbrev refusal : Reading → ℕ
+refusal (Refused n) = n
+refusal (InformationIs h found) = 0
+refusal (Notification h n) = 0
+refusal (Request h) = 0
+refusal (Response h) = 0
+refusal (Loopback h command) = 0
+refusal (Organization h oui) = 0
+
+abbrev reads : List ℕ → ℕ
+reads f = refusal (readingOf (decode f))
+
+-- a TLV of type 01 with so many octets
+abbrev local : ℕ → List ℕ
+local octets = 1 ∷ octets ∷ replicate (octets - 2) 0
+
+-- ---- a container with a width octet
+
+-- the octets of its value, 0 for none
+abbrev octetsIn : ContainerStep → ℕ
+octetsIn NoMore = 0
+octetsIn Broken = 0
+octetsIn (Value descriptor width next) = width
+octetsIn (Indication descriptor octet next) = 0
+
+abbrev width : ℕ → ℕ
+width octet = octetsIn (containerStep (7 ∷ 0 ∷ 2 ∷ octet ∷ replicate 128 0) 0)
+
+-- ---- an end in SEND_ANY that takes one input more
+
+abbrev standing : (lost written revision : ℕ) → End
+standing lost written revision =
+    record {
+      settings = record { configuration = 5; size = 1518; oui = 1; vendor = 2; source = 3; required = 0 };
+      link = record { up = true; lost = lost };
+      peer = record {
+        kept = 2;
+        held = Is (record { version = 1; revision = 0; state = 0; configuration = 5; oampdu = 1518; oui = 1; vendor = 2 });
+        last = Never;
+      };
+      role = Idle;
+      meter = record { ticks = 0; written = written };
+      own = record { revision = revision; number = 0; gasp = false; critical = false; owed = false };
+    }
+
+abbrev takes : Input → End → Outcome
+takes i e = outcomeOf (record { input = i; out = replicate 60 0 }) e
+
+-- a loopback start changes the State octet
+abbrev revisionAfter : ℕ → ℕ
+revisionAfter revision = takes (request start) (standing 0 0 revision) .end .own .revision
+
+-- whether a tick that brings the lost-link count to a number enters FAULT, which clears all that is kept of the peer
+abbrev faultsAt : ℕ → ℕ
+faultsAt lost = bitOf (blank (takes tick (standing (lost - 1) 0 0) .end .peer))
+
+abbrev countAfter : ℕ → ℕ
+countAfter lost = takes tick (standing (lost - 1) 0 0) .end .link .lost
+
+-- the answer to a request for the n-th frame of a second
+abbrev answerToFrame : ℕ → ℕ
+answerToFrame n = takes (request start) (standing 0 (n - 1) 0) .answer
+
+-- ---- the table
+
+pub record Row : Type 0 where
+  pub found : ℕ
+  pub expected : ℕ
+
+infix 70 _is_
+abbrev _is_ : ℕ → ℕ → Row
+found is expected = record { found = found; expected = expected }
+
+abbrev pub rows : List Row
+rows =
+    reads (frame 4 (1 ∷ []) 59) is 1
+    ∷ reads (frame 4 (1 ∷ []) 60) is 0
+    ∷ reads (frame 4 (1 ∷ []) 1514) is 0
+    ∷ reads (frame 4 (1 ∷ []) 1515) is 1
+    ∷ reads (frame 5 [] 60) is 5
+    ∷ reads (frame 0 (local 15) 60) is 6
+    ∷ reads (frame 0 (local 16 ++ local 16) 60) is 7
+    ∷ reads (frame 4 (0 ∷ []) 60) is 8
+    ∷ width 0x00 is 128
+    ∷ width 0x7f is 127
+    ∷ width 0x80 is 0
+    ∷ revisionAfter 65535 is 0
+    ∷ faultsAt 49 is 0
+    ∷ countAfter 49 is 49
+    ∷ faultsAt 50 is 1
+    ∷ countAfter 50 is 0
+    ∷ answerToFrame 10 is 0
+    ∷ answerToFrame 11 is 13
+    ∷ []
+
+abbrev pub allRight : List Row → Bool
+allRight [] = true
+allRight (r ∷ rs) = eqb (r .found) (r .expected) && allRight rs

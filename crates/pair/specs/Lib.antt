@@ -1,0 +1,4 @@
+pub mod Lists
+pub mod System
+pub mod Safe
+pub mod Examples
