@@ -61,6 +61,28 @@ pub fn from_difference(expected: &str, found: &str) -> [String; 2] {
     })
 }
 
+/// The last of many lines, equal ones that follow each other as one.
+pub fn last_lines(lines: impl Iterator<Item = String>) -> Vec<String> {
+    const SHOWN: usize = 60;
+    let mut merged: Vec<(String, usize)> = Vec::new();
+    for line in lines {
+        match merged.last_mut() {
+            Some((last, times)) if *last == line => *times += 1,
+            _ => merged.push((line, 1)),
+        }
+    }
+    let left_out = merged.len().saturating_sub(SHOWN);
+    let mut shown = Vec::new();
+    if left_out > 0 {
+        shown.push(format!("... {left_out} lines left out"));
+    }
+    shown.extend(merged.drain(left_out..).map(|(line, times)| match times {
+        1 => line,
+        _ => format!("{line} ({times} times)"),
+    }));
+    shown
+}
+
 /// Octets as a line of the lister's input.
 pub fn hex(octets: &[u8]) -> String {
     octets.iter().map(|octet| format!("{octet:02x}")).collect()
@@ -134,6 +156,16 @@ mod tests {
         assert!(found.ends_with("aabd") && found.len() < 50);
         assert_eq!(from_difference("ab", "a"), ["ab", "a"]);
         assert_eq!(from_difference("", "a"), ["", "a"]);
+    }
+
+    #[test]
+    fn equal_lines_are_one_and_only_the_last_are_shown() {
+        let lines = |words: &[&str]| last_lines(words.iter().map(|word| word.to_string()));
+        assert_eq!(lines(&["a", "b", "b", "a"]), ["a", "b (2 times)", "a"]);
+        assert!(lines(&[]).is_empty());
+        let many = last_lines((0..100).map(|number| number.to_string()));
+        assert_eq!((many.len(), &many[0][..]), (61, "... 40 lines left out"));
+        assert_eq!((&many[1][..], &many[60][..]), ("40", "99"));
     }
 
     #[test]

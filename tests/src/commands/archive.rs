@@ -1,7 +1,7 @@
 //! `writers`, `reading` and `log`: the archive's functions beside the paper's.
 
 use super::arguments::Arguments;
-use super::Outcome;
+use super::{told, Outcome};
 use oam_tests::library::{Archive, Library};
 use oam_tests::random::seed_from_clock;
 use oam_tests::trial::{self, Report};
@@ -30,13 +30,5 @@ fn run(
     let times = arguments.number(option).unwrap_or(TIMES);
     println!("seed {seed}"); // first, so that it is known whatever the archive does
     let report = trial(&Archive, seed, times as usize);
-    for line in &report.counts {
-        println!("{line}");
-    }
-    if report.faults.is_empty() {
-        println!("no difference");
-        return Ok(());
-    }
-    let faults = report.faults.join("\n  ");
-    Err(format!("fails (seed {seed}, {option} {times})\n  {faults}").into())
+    told(&report, &format!("seed {seed}, {option} {times}"))
 }

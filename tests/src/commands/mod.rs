@@ -5,12 +5,14 @@ mod archive;
 mod arguments;
 mod list;
 mod lister;
+mod machine;
 mod process;
 mod speed;
 #[cfg(feature = "archive")]
 mod write_speed;
 
 use arguments::Arguments;
+use oam_tests::trial::Report;
 use std::error::Error;
 
 /// A command's end: what it had to say is printed, or it failed for a reason.
@@ -48,6 +50,20 @@ const ALL: &[Command] = &[
         options: &["--seed", "--megabytes", "--runs"],
         run: speed::run,
     },
+    Command {
+        name: "machine",
+        form: "[--seed N] [--calls N]",
+        purpose: "compare the archive's link machine with the paper's",
+        options: &["--seed", "--calls"],
+        run: machine::machine,
+    },
+    Command {
+        name: "pair",
+        form: "[--seed N] [--calls N]",
+        purpose: "join two ends of the archive and test the third demand throughout",
+        options: &["--seed", "--calls"],
+        run: machine::pair,
+    },
     #[cfg(feature = "archive")]
     Command {
         name: "writers",
@@ -84,7 +100,8 @@ const ALL: &[Command] = &[
 
 /// What a build without the archive says of the commands it lacks.
 const WITHOUT_ARCHIVE: &str = "
-writers, reading, log and write-speed need the feature archive";
+writers, reading, log and write-speed need the feature archive;
+machine and pair try this package's own machine without the feature machine";
 
 /// Runs the command that the arguments name.
 pub fn run(mut given: impl Iterator<Item = String>) -> Outcome {
@@ -96,6 +113,19 @@ pub fn run(mut given: impl Iterator<Item = String>) -> Outcome {
     let arguments = Arguments::parse(given, command.options)
         .map_err(|fault| format!("{name}: {fault}\n{}", usage()))?;
     (command.run)(&arguments).map_err(|failure| format!("{name}: {failure}").into())
+}
+
+/// Shows a trial's counts; what was wrong is a failure, with `how` to repeat it.
+fn told(report: &Report, how: &str) -> Outcome {
+    for line in &report.counts {
+        println!("{line}");
+    }
+    if report.faults.is_empty() {
+        println!("no difference");
+        return Ok(());
+    }
+    let faults = report.faults.join("\n  ");
+    Err(format!("fails ({how})\n  {faults}").into())
 }
 
 fn usage() -> String {

@@ -9,6 +9,7 @@ mod encode;
 mod every;
 mod lines;
 mod log_lines;
+pub mod machine;
 mod messages;
 mod near;
 mod sequence;

@@ -55,7 +55,7 @@ fn outcome(written: Result<usize, u8>) -> u64 {
 }
 
 /// Stores what was read; a refusal stores nothing.
-fn stored<const N: usize>(read: Result<[u64; N], u8>, room: &mut [u64]) -> u64 {
+pub(super) fn stored<const N: usize>(read: Result<[u64; N], u8>, room: &mut [u64]) -> u64 {
     match read {
         Ok(values) => {
             room.copy_from_slice(&values);
@@ -65,7 +65,7 @@ fn stored<const N: usize>(read: Result<[u64; N], u8>, room: &mut [u64]) -> u64 {
     }
 }
 
-fn header_of(message: &Message) -> [u64; HEADER] {
+pub(super) fn header_of(message: &Message) -> [u64; HEADER] {
     let fixed = match &message.body {
         Body::Notification { number, .. } => (*number).into(),
         Body::Loopback { command } => (*command).into(),

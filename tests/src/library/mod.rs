@@ -5,6 +5,7 @@
 #[cfg(feature = "archive")]
 mod archive;
 mod by_paper;
+pub mod machine;
 mod message;
 
 #[cfg(feature = "archive")]

@@ -1,5 +1,5 @@
-//! The answer numbers that a reading, a writing or a line of text can be given
-//! (the paper's section "Answer numbers"; 11 to 13 and 15 are the machine's).
+//! The answer numbers (the paper's section of that name): of a reading, a writing
+//! or a line of text, and 11 to 13 and 15 of the machine alone.
 
 /// The listing's number for an accepted frame.
 pub const ACCEPTED: u8 = 0;
@@ -19,12 +19,21 @@ pub const BROKEN: u8 = 6;
 pub const SECOND: u8 = 7;
 /// The loopback command is not 1 or 2.
 pub const COMMAND: u8 = 8;
-/// The lent output is shorter than the frame or log line to be written.
+/// The lent output is shorter than the frame or log line to be written, or in
+/// receive, tick and report than 60 octets.
 pub const OUTPUT: u8 = 9;
 /// A value is out of range, or what is to be written has no plain form.
 pub const VALUES: u8 = 10;
+/// A request while discovery is not in SEND_ANY.
+pub const NOT_SEND_ANY: u8 = 11;
+/// The request's frame, plus 4, exceeds the smaller of the two maximum sizes.
+pub const SIZE: u8 = 12;
+/// Ten frames are already written in this timer second.
+pub const LIMIT: u8 = 13;
 /// The text line is not in its stated form.
 pub const TEXT: u8 = 14;
+/// Role, mode or the peer's capability forbids.
+pub const FORBIDDEN: u8 = 15;
 
 /// Every answer that a line of the listing can show.
 pub const ALL: [u8; 10] = [

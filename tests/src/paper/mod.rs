@@ -1,9 +1,10 @@
-//! The paper's frames: their readings, their answers, their plain form, and the
-//! two texts, listing and log.
+//! The paper's frames: their readings, their answers, their plain form, the two
+//! texts, listing and log, and the link machine.
 
 pub mod answer;
 mod draft;
 pub mod log;
+pub mod machine;
 mod message;
 mod numbers;
 mod part;
@@ -14,7 +15,7 @@ pub mod walk;
 mod write;
 
 #[cfg(test)]
-mod tests;
+pub(crate) mod tests;
 
 pub use draft::{Draft, DraftBody, WRITTEN};
 pub use message::{code, Body, Container, Content, Descriptor, Event, Information, Message, Part};

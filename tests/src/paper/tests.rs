@@ -4,7 +4,7 @@
 use super::*;
 
 /// The octets of spaced hexadecimal text.
-pub(super) fn octets(text: &str) -> Vec<u8> {
+pub(crate) fn octets(text: &str) -> Vec<u8> {
     let digits: Vec<char> = text.chars().filter(|c| !c.is_whitespace()).collect();
     let octet = |pair: &[char]| u8::from_str_radix(&pair.iter().collect::<String>(), 16);
     digits
@@ -14,7 +14,7 @@ pub(super) fn octets(text: &str) -> Vec<u8> {
 }
 
 /// A frame with flags 0050: the code and body given, zeros up to 60 octets.
-pub(super) fn frame(code_and_body: &str) -> Vec<u8> {
+pub(crate) fn frame(code_and_body: &str) -> Vec<u8> {
     let header = "0180c2000002 020000000001 8809 03 0050";
     let mut frame = octets(&format!("{header} {code_and_body}"));
     let length = frame.len().max(60);
@@ -32,7 +32,7 @@ fn answer_to(code_and_body: &str) -> u8 {
     read(&frame).err().unwrap_or(answer::ACCEPTED)
 }
 
-pub(super) const LOCAL: &str = "01 10 01 002a 05 1d 05ee 001b21 deadbeef";
+pub(crate) const LOCAL: &str = "01 10 01 002a 05 1d 05ee 001b21 deadbeef";
 pub(super) const REMOTE: &str = "02 10 01 ffff 02 0f 0040 a0b1c2 01020304";
 /// A TLV to be skipped, long enough to bring what follows to octet 60.
 const SKIPPED: &str = "7e 2a 1111111111111111 1111111111111111 1111111111111111 \

@@ -100,7 +100,7 @@ fn told(outcome: u64) -> String {
     format!("answer {answer}, length {length}")
 }
 
-fn place_told<T: Display + LowerHex>(stray: &Stray<T>, length: usize) -> String {
+pub fn place_told<T: Display + LowerHex>(stray: &Stray<T>, length: usize) -> String {
     let (place, expected, found) = (stray.place, &stray.expected, &stray.found);
     let side = match usize::try_from(place) {
         Err(_) => ", before what was lent",

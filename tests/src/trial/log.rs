@@ -150,10 +150,7 @@ impl<'a> Trial<'a> {
         report.add_many("ways not to be an entry", &self.entry_faults, |fault| {
             format!("{fault:?}")
         });
-        let read_back = crate::compare::grouped(self.read_back);
-        report
-            .counts
-            .push(format!("{read_back} written lines read back"));
+        report.count(self.read_back, "written lines read back");
         report
     }
 }

@@ -3,14 +3,19 @@
 mod contest;
 mod lent;
 mod log;
+mod machine;
+mod pair;
 mod reading;
 mod report;
+mod turn;
 mod writers;
 
 #[cfg(test)]
 mod tests;
 
 pub use log::log;
+pub use machine::machine;
+pub use pair::pair;
 pub use reading::reading;
 pub use report::Report;
 pub use writers::writers;

@@ -29,10 +29,19 @@ impl<K: Ord> Tally<K> {
 
 impl Report {
     pub fn of(contest: &Contest) -> Self {
+        Report::with(contest.faults())
+    }
+
+    pub fn with(faults: Vec<String>) -> Self {
         Report {
             counts: Vec::new(),
-            faults: contest.faults(),
+            faults,
         }
+    }
+
+    /// Shows a single count.
+    pub fn count(&mut self, count: usize, what: &str) {
+        self.counts.push(format!("{} {what}", grouped(count)));
     }
 
     /// Shows each of a tally's counts.

@@ -1,0 +1,18 @@
+//! Makers for the link machine: settings, the frames of a peer, and scripts of
+//! calls.
+
+mod directed;
+mod peer;
+mod requests;
+mod script;
+mod settings;
+mod wraps;
+
+#[cfg(test)]
+mod tests;
+
+pub use directed::directed_scripts;
+pub use requests::any_request;
+pub use script::Script;
+pub use settings::{any_settings, good_settings, paired_settings, SettingsFault};
+pub use wraps::{wrapping_second, wrapping_start, WRAPPING, WRAPPING_SECONDS};

@@ -1,0 +1,31 @@
+//! The client's requests, with values in range and out of it.
+
+use crate::generate::drafts::any_draft;
+use crate::generate::messages::{any_message, Style};
+use crate::library::machine::Call;
+use crate::paper::{code, Draft, DraftBody};
+use crate::random::Random;
+
+/// One of the five requests.
+pub fn any_request(random: &mut Random) -> Call {
+    let code = random.pick(&[
+        code::LOOPBACK,
+        code::REQUEST,
+        code::NOTIFICATION,
+        code::ORGANIZATION,
+    ]);
+    let draft = match random.below(4) {
+        0 => any_draft(random, code).draft,
+        _ => {
+            let message = any_message(random, code, Style::Plain);
+            Draft::of(&message).expect("a code that is written")
+        }
+    };
+    match draft.body {
+        DraftBody::Request { descriptors } => Call::Request(descriptors),
+        DraftBody::Notification { events, .. } => Call::Notify(events),
+        DraftBody::Organization { oui, data } => Call::Organization { oui, octets: data },
+        _ if random.one_in(2) => Call::Start,
+        _ => Call::Stop,
+    }
+}

@@ -1,0 +1,136 @@
+//! The archive's link machine, called as a C program would.
+
+use super::{Call, Machine};
+use crate::library::Archive;
+use crate::paper::machine::Settings;
+
+// A slice passes as a pointer and a number of elements.
+extern "C" {
+    fn oam_fresh(
+        configuration: u8,
+        size: u16,
+        oui: u32,
+        vendor: u32,
+        source: u64,
+        required: u8,
+        state: *mut u8,
+        state_len: usize,
+    ) -> u64;
+
+    fn oam_tick(state: *mut u8, state_len: usize, out: *mut u8, out_len: usize) -> u64;
+
+    fn oam_report(
+        report: u8,
+        state: *mut u8,
+        state_len: usize,
+        out: *mut u8,
+        out_len: usize,
+    ) -> u64;
+
+    fn oam_receive(
+        frame: *const u8,
+        frame_len: usize,
+        header: *mut u64,
+        header_len: usize,
+        state: *mut u8,
+        state_len: usize,
+        out: *mut u8,
+        out_len: usize,
+    ) -> u64;
+
+    fn oam_start(state: *mut u8, state_len: usize, out: *mut u8, out_len: usize) -> u64;
+
+    fn oam_stop(state: *mut u8, state_len: usize, out: *mut u8, out_len: usize) -> u64;
+
+    fn oam_request(
+        descriptors: *const u32,
+        descriptors_len: usize,
+        state: *mut u8,
+        state_len: usize,
+        out: *mut u8,
+        out_len: usize,
+    ) -> u64;
+
+    fn oam_notify(
+        events: *const u64,
+        events_len: usize,
+        state: *mut u8,
+        state_len: usize,
+        out: *mut u8,
+        out_len: usize,
+    ) -> u64;
+
+    fn oam_organization(
+        oui: u32,
+        octets: *const u8,
+        octets_len: usize,
+        state: *mut u8,
+        state_len: usize,
+        out: *mut u8,
+        out_len: usize,
+    ) -> u64;
+
+    fn oam_show(state: *const u8, state_len: usize, numbers: *mut u64, numbers_len: usize) -> u64;
+}
+
+// SAFETY, of every call below: each pointer comes from a slice that lives through
+// the call, with that slice's own length behind it, and what is written to is
+// lent to this call alone.
+
+impl Machine for Archive {
+    fn fresh(&self, settings: &Settings, state: &mut [u8]) -> u64 {
+        let Settings {
+            configuration,
+            size,
+            oui,
+            vendor,
+            source,
+            required,
+        } = *settings;
+        let (state, length) = (state.as_mut_ptr(), state.len());
+        unsafe {
+            oam_fresh(
+                configuration,
+                size,
+                oui,
+                vendor,
+                source,
+                required,
+                state,
+                length,
+            )
+        }
+    }
+
+    fn call(&self, call: &Call, header: &mut [u64], state: &mut [u8], out: &mut [u8]) -> u64 {
+        let (state, length) = (state.as_mut_ptr(), state.len());
+        let (out, room) = (out.as_mut_ptr(), out.len());
+        match call {
+            Call::Tick => unsafe { oam_tick(state, length, out, room) },
+            Call::Report(report) => unsafe { oam_report(*report, state, length, out, room) },
+            Call::Receive(frame) => unsafe {
+                let (frame, octets) = (frame.as_ptr(), frame.len());
+                let (header, values) = (header.as_mut_ptr(), header.len());
+                oam_receive(frame, octets, header, values, state, length, out, room)
+            },
+            Call::Start => unsafe { oam_start(state, length, out, room) },
+            Call::Stop => unsafe { oam_stop(state, length, out, room) },
+            Call::Request(descriptors) => unsafe {
+                let (descriptors, count) = (descriptors.as_ptr(), descriptors.len());
+                oam_request(descriptors, count, state, length, out, room)
+            },
+            Call::Notify(events) => unsafe {
+                oam_notify(events.as_ptr(), events.len(), state, length, out, room)
+            },
+            Call::Organization { oui, octets } => unsafe {
+                let (octets, count) = (octets.as_ptr(), octets.len());
+                oam_organization(*oui, octets, count, state, length, out, room)
+            },
+        }
+    }
+
+    fn show(&self, state: &[u8], numbers: &mut [u64]) -> u64 {
+        let (numbers, count) = (numbers.as_mut_ptr(), numbers.len());
+        unsafe { oam_show(state.as_ptr(), state.len(), numbers, count) }
+    }
+}

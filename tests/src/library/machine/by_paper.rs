@@ -1,0 +1,220 @@
+//! The paper's machine in the archive's place, with a layout of its own for the
+//! state.
+
+use super::{Call, Machine, RECEIVED, STATE_OCTETS};
+use crate::library::by_paper::{header_of, stored};
+use crate::library::ByPaper;
+use crate::paper::machine::{End, Settings, Shown, Step, END_NUMBERS, PACKED_NUMBERS};
+use crate::paper::{answer, joined, read};
+
+/// The octets in which each number of an end is packed.
+const WIDTHS: [usize; PACKED_NUMBERS] = [
+    1, 2, 3, 4, 6, 1, // settings
+    1, 1, 1, // link up, lost-link count, kept field
+    1, 1, 2, 1, 1, 2, 3, 4, // the record
+    1, 2, // the last event number
+    1, 1, 1, 2, 2, // role, ticks, frames written, revision, next event number
+    1, 1, 1, // dying gasp, critical event, owed
+];
+
+impl Machine for ByPaper {
+    fn fresh(&self, settings: &Settings, state: &mut [u8]) -> u64 {
+        match End::fresh(settings) {
+            Ok(end) if state.len() == STATE_OCTETS => {
+                state.copy_from_slice(&packed(&end));
+                answer::ACCEPTED.into()
+            }
+            _ => answer::VALUES.into(),
+        }
+    }
+
+    fn call(&self, call: &Call, header: &mut [u64], state: &mut [u8], out: &mut [u8]) -> u64 {
+        let Some(end) = unpacked(state) else {
+            return answer::VALUES.into();
+        };
+        match call {
+            Call::Report(number) if *number > 5 => return answer::VALUES.into(),
+            Call::Receive(_) if header.len() < RECEIVED => return answer::OUTPUT.into(),
+            _ => {}
+        }
+        match call.step(&end, out) {
+            Ok(step) => {
+                state.copy_from_slice(&packed(&step.end));
+                if let Call::Receive(frame) = call {
+                    header[..RECEIVED].copy_from_slice(&received(frame, step.shown));
+                }
+                outcome(answer::ACCEPTED, &step)
+            }
+            Err(refusal) => outcome(refusal, &unmoved(end)),
+        }
+    }
+
+    fn show(&self, state: &[u8], numbers: &mut [u64]) -> u64 {
+        match (unpacked(state), numbers.get_mut(..END_NUMBERS)) {
+            (None, _) => answer::VALUES.into(),
+            (Some(_), None) => answer::OUTPUT.into(),
+            (Some(end), Some(room)) => stored(Ok(end.numbers()), room),
+        }
+    }
+}
+
+fn unmoved(end: End) -> Step {
+    Step {
+        end,
+        length: 0,
+        shown: Shown::Nothing,
+    }
+}
+
+fn outcome(answer: u8, step: &Step) -> u64 {
+    let octet = step.end.role.octet();
+    u64::from(answer)
+        | (step.length as u64) << 8
+        | u64::from(octet) << 40
+        | (step.shown as u64) << 48
+}
+
+/// What an accepted frame stores.
+fn received(frame: &[u8], shown: Shown) -> [u64; RECEIVED] {
+    let message = read(frame).expect("an accepted frame");
+    let [source, flags, code, fixed] = header_of(&message);
+    let number = match shown {
+        Shown::Events => fixed,
+        Shown::Frame | Shown::Nothing => 0,
+    };
+    [source, flags, code, number]
+}
+
+/// The octets of an end's state.
+pub fn packed(end: &End) -> [u8; STATE_OCTETS] {
+    let mut state = [0; STATE_OCTETS];
+    let mut rest = &mut state[..];
+    for (number, width) in end.numbers().into_iter().zip(WIDTHS) {
+        let (here, behind) = rest.split_at_mut(width);
+        here.copy_from_slice(&number.to_be_bytes()[8 - width..]);
+        rest = behind;
+    }
+    state
+}
+
+/// The end in a state's octets, if there is one.
+pub fn unpacked(state: &[u8]) -> Option<End> {
+    if state.len() != STATE_OCTETS {
+        return None;
+    }
+    let mut rest = state;
+    End::at_rest(&WIDTHS.map(|width| {
+        let (here, behind) = rest.split_at(width);
+        rest = behind;
+        joined(here)
+    }))
+}
+
+#[cfg(test)]
+mod tests {
+    use super::*;
+    use crate::paper::tests::{frame, LOCAL};
+
+    const SETTINGS: Settings = Settings {
+        configuration: 0x0F,
+        size: 1518,
+        oui: 1,
+        vendor: 2,
+        source: 3,
+        required: 0,
+    };
+    const OLD: u64 = 0xEEEE;
+
+    fn fresh() -> [u8; STATE_OCTETS] {
+        let mut state = [0xEE; STATE_OCTETS];
+        assert_eq!(ByPaper.fresh(&SETTINGS, &mut state), 0);
+        state
+    }
+
+    fn call(call: &Call, state: &mut [u8], out: usize) -> u64 {
+        ByPaper.call(call, &mut [], state, &mut vec![0; out])
+    }
+
+    /// A looping end, and its number of frames written.
+    fn looping() -> [u8; STATE_OCTETS] {
+        let mut state = fresh();
+        call(&Call::Report(0), &mut state, 60);
+        for text in [&format!("00 {LOCAL}"), "04 01"] {
+            let received = Call::Receive(frame(text));
+            let outcome = ByPaper.call(&received, &mut [0; 4], &mut state, &mut [0; 60]);
+            assert_eq!(outcome & 0xFF_FFFF_FFFF, 60 << 8);
+        }
+        state
+    }
+
+    #[test]
+    fn the_widths_fill_a_state() {
+        assert_eq!(WIDTHS.iter().sum::<usize>(), STATE_OCTETS);
+        let state = looping();
+        assert_eq!(unpacked(&state).map(|end| packed(&end)), Some(state));
+    }
+
+    #[test]
+    fn fresh_stores_a_state_or_nothing() {
+        let mut longer = [0xEE; STATE_OCTETS + 1];
+        assert_eq!(ByPaper.fresh(&SETTINGS, &mut longer), 10);
+        assert_eq!(ByPaper.fresh(&SETTINGS, &mut longer[..47]), 10);
+        let settings = Settings {
+            size: 63,
+            ..SETTINGS
+        };
+        assert_eq!(ByPaper.fresh(&settings, &mut longer[..48]), 10);
+        assert_eq!(longer, [0xEE; STATE_OCTETS + 1]);
+        let mut numbers = [OLD; 29];
+        assert_eq!(ByPaper.show(&fresh(), &mut numbers), 0);
+        let settings = [0x0F, 1518, 1, 2, 3, 0];
+        assert_eq!(numbers[..6], settings);
+        assert_eq!((&numbers[6..28], numbers[28]), (&[0; 22][..], OLD));
+    }
+
+    #[test]
+    fn an_outcome_shows_the_octet_on_refusals_too() {
+        let mut state = looping();
+        let octet = 5 << 40;
+        assert_eq!(call(&Call::Tick, &mut state, 59), octet | 9);
+        assert_eq!(call(&Call::Start, &mut state, 60), octet | 15);
+        assert_eq!(call(&Call::Request(vec![]), &mut state, 60), octet | 10);
+        assert_eq!(call(&Call::Report(2), &mut state, 60), octet | 60 << 8);
+        assert_eq!(state[41..43], [0, 1]); // the revision
+    }
+
+    /// What is tested before the call has no octet in its answer.
+    #[test]
+    fn a_bad_state_report_or_header_is_its_number_alone() {
+        let mut state = looping();
+        assert_eq!(call(&Call::Report(6), &mut state, 0), 10);
+        let received = Call::Receive(vec![]);
+        let mut receive = |room: usize| {
+            let header = &mut [OLD; 5][..room];
+            ByPaper.call(&received, header, &mut state, &mut [0; 60])
+        };
+        assert_eq!(receive(3), 9);
+        assert_eq!(receive(4), 5 << 40 | 1);
+        state[20] = 2; // neither held nor not
+        assert_eq!(call(&Call::Tick, &mut state, 60), 10);
+        assert_eq!(call(&Call::Report(6), &mut state, 60), 10);
+        assert_eq!(ByPaper.show(&state, &mut []), 10);
+        assert_eq!(ByPaper.show(&fresh(), &mut [0; 27]), 9);
+    }
+
+    #[test]
+    fn an_accepted_frame_stores_its_header() {
+        let mut state = looping();
+        let notification = Call::Receive(frame("01 1234"));
+        let receive = |state: &mut [u8]| {
+            let mut header = [OLD; 5];
+            let outcome = ByPaper.call(&notification, &mut header, state, &mut [0; 60]);
+            (outcome >> 48, header)
+        };
+        let stored = [0x0200_0000_0001, 0x50, 1, 0x1234, OLD];
+        assert_eq!(receive(&mut state), (2, stored));
+        let stored = [0x0200_0000_0001, 0x50, 1, 0, OLD];
+        assert_eq!(receive(&mut state), (1, stored));
+        assert_eq!(receive(&mut fresh()), (1, stored));
+    }
+}

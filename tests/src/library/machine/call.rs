@@ -1,0 +1,95 @@
+//! The calls that step an end.
+
+use crate::compare::hex;
+use crate::paper::answer;
+use crate::paper::machine::{End, Report, Step};
+use std::fmt;
+
+#[derive(Clone, Debug, PartialEq, Eq)]
+pub enum Call {
+    Tick,
+    /// The report's number, 0 to 5.
+    Report(u8),
+    /// The frame.
+    Receive(Vec<u8>),
+    Start,
+    Stop,
+    /// One number a descriptor: the branch above the leaf's sixteen bits.
+    Request(Vec<u32>),
+    /// Seven numbers an event.
+    Notify(Vec<u64>),
+    Organization {
+        oui: u32,
+        octets: Vec<u8>,
+    },
+}
+
+impl Call {
+    /// The names of the archive's functions.
+    pub const NAMES: [&'static str; 8] = [
+        "oam_tick",
+        "oam_report",
+        "oam_receive",
+        "oam_start",
+        "oam_stop",
+        "oam_request",
+        "oam_notify",
+        "oam_organization",
+    ];
+
+    pub fn name(&self) -> &'static str {
+        let place = match self {
+            Call::Tick => 0,
+            Call::Report(_) => 1,
+            Call::Receive(_) => 2,
+            Call::Start => 3,
+            Call::Stop => 4,
+            Call::Request(_) => 5,
+            Call::Notify(_) => 6,
+            Call::Organization { .. } => 7,
+        };
+        Call::NAMES[place]
+    }
+
+    /// Whether it is one of the client's five requests.
+    pub fn is_request(&self) -> bool {
+        !matches!(self, Call::Tick | Call::Report(_) | Call::Receive(_))
+    }
+
+    /// What the paper's machine makes of the call.
+    pub fn step(&self, end: &End, out: &mut [u8]) -> Result<Step, u8> {
+        match self {
+            Call::Tick => end.tick(out),
+            Call::Report(number) => match Report::ALL.get(usize::from(*number)) {
+                Some(report) => end.report(*report, out),
+                None => Err(answer::VALUES),
+            },
+            Call::Receive(frame) => end.receive(frame, out),
+            Call::Start => end.start(out),
+            Call::Stop => end.stop(out),
+            Call::Request(descriptors) => end.variables(descriptors, out),
+            Call::Notify(events) => end.notify(events, out),
+            Call::Organization { oui, octets } => end.organization(*oui, octets, out),
+        }
+    }
+}
+
+/// Shows every value, of an organization's data only the count.
+impl fmt::Display for Call {
+    fn fmt(&self, text: &mut fmt::Formatter) -> fmt::Result {
+        text.write_str(self.name())?;
+        match self {
+            Call::Tick | Call::Start | Call::Stop => Ok(()),
+            Call::Report(number) => match Report::ALL.get(usize::from(*number)) {
+                Some(report) => write!(text, " {report:?}"),
+                None => write!(text, " {number}"),
+            },
+            Call::Receive(frame) => write!(text, " {}", hex(frame)),
+            Call::Request(descriptors) => write!(text, " {descriptors:06x?}"),
+            Call::Notify(events) => write!(text, " {events:?}"),
+            Call::Organization { oui, octets } => {
+                write!(text, " OUI {oui:06x}, {} octets", octets.len())
+            }
+        }
+    }
+}

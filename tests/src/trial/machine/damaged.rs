@@ -1,0 +1,205 @@
+//! Damaged states: each is refused, and nothing changes, or it is a state, and
+//! then behaves like the paper's machine at the numbers that it shows.
+
+use super::bout::Bout;
+use super::lend;
+use super::played::Played;
+use crate::compare::hex;
+use crate::generate::machine::Script;
+use crate::library::machine::{Call, Machine, RECEIVED, STATE_OCTETS};
+use crate::paper::answer;
+use crate::paper::machine::{Discovery, End, Role, END_NUMBERS};
+use crate::random::Random;
+use crate::trial::lent::Lent;
+use crate::trial::report::{Report, Tally};
+
+/// Calls of an end whose state was damaged.
+const CALLS: usize = 12;
+
+#[derive(Clone, Copy, Debug, PartialEq, Eq, PartialOrd, Ord)]
+enum Damage {
+    OtherLength,
+    Bits,
+    Octet,
+    AllOctets,
+    Zeros,
+    Ones,
+}
+
+impl Damage {
+    const ALL: [Damage; 6] = [
+        Damage::OtherLength,
+        Damage::Bits,
+        Damage::Octet,
+        Damage::AllOctets,
+        Damage::Zeros,
+        Damage::Ones,
+    ];
+
+    fn befall(self, random: &mut Random, state: &mut Vec<u8>) {
+        let length = state.len();
+        match self {
+            Damage::OtherLength => {
+                let any = random.below(2 * length);
+                let other = random.pick(&[0, length - 1, length + 1, any]);
+                state.resize(if other == length { 0 } else { other }, 0);
+            }
+            Damage::Bits => {
+                for _ in 0..random.between(1, 3) {
+                    state[random.below(length)] ^= 1 << random.below(8);
+                }
+            }
+            Damage::Octet => state[random.below(length)] = random.octet(),
+            Damage::AllOctets => *state = random.octets(length),
+            Damage::Zeros => state.fill(0),
+            Damage::Ones => state.fill(0xFF),
+        }
+    }
+}
+
+pub struct Damaged {
+    /// States by whether they still were ones.
+    states: Tally<(Damage, bool)>,
+    /// Calls of a state that is none.
+    refused: Tally<&'static str>,
+    calls: usize,
+    /// States that no calls lead to, and that were taken all the same.
+    odd: usize,
+}
+
+impl Damaged {
+    pub fn new() -> Self {
+        let refused = Damage::ALL.map(|damage| (damage, false));
+        let taken = [(Damage::Bits, true), (Damage::Octet, true)];
+        Damaged {
+            states: Tally::expecting(refused.into_iter().chain(taken)),
+            refused: Tally::expecting(Call::NAMES),
+            calls: 0,
+            odd: 0,
+        }
+    }
+
+    /// Damages the state that a script has left in every way.
+    pub fn try_one(
+        &mut self,
+        random: &mut Random,
+        script: &mut Script,
+        played: &Played,
+    ) -> Result<(), String> {
+        for damage in Damage::ALL {
+            let mut octets = played.bout.state().to_vec();
+            damage.befall(random, &mut octets);
+            let mut state = Lent::octets(random, octets.len());
+            state.slice_mut().copy_from_slice(&octets);
+            let library = played.library();
+            let told = |fault| {
+                let octets = hex(&octets);
+                format!("on the state {octets}, of {damage:?}\n  {fault}")
+            };
+            let shown = shown(library, random, &state).map_err(told)?;
+            self.states.count((damage, shown.is_some()));
+            match shown {
+                None => self.refuse(library, random, script, state, &played.end()),
+                Some(end) => self.play(library, random, script, state, &end),
+            }
+            .map_err(told)?;
+        }
+        Ok(())
+    }
+
+    /// A call of a state that is none.
+    fn refuse(
+        &mut self,
+        library: &dyn Machine,
+        random: &mut Random,
+        script: &mut Script,
+        state: Lent<u8>,
+        end: &End,
+    ) -> Result<(), String> {
+        let call = script.call(random, end);
+        self.refused.count(call.name());
+        let (turn, _) = lend(random, call, end);
+        let room = random.below(2 * RECEIVED);
+        let header = Lent::numbers(random, room);
+        let out = Lent::octets(random, turn.out);
+        let (mut found_state, mut found_header, mut found_out) =
+            (state.clone(), header.clone(), out.clone());
+        let outcome = library.call(
+            &turn.call,
+            found_header.slice_mut(),
+            found_state.slice_mut(),
+            found_out.slice_mut(),
+        );
+        let kept = state.stray(&found_state).is_none()
+            && header.stray(&found_header).is_none()
+            && out.stray(&found_out).is_none();
+        match (outcome == answer::VALUES.into(), kept) {
+            (true, true) => Ok(()),
+            (false, _) => Err(format!("{turn} gives {outcome:#x} where oam_show gives 10")),
+            (true, false) => Err(format!("{turn} is refused and changes what was lent")),
+        }
+    }
+
+    /// Calls of a state that shows this end.
+    fn play(
+        &mut self,
+        library: &dyn Machine,
+        random: &mut Random,
+        script: &mut Script,
+        state: Lent<u8>,
+        end: &End,
+    ) -> Result<(), String> {
+        self.odd += usize::from(is_odd(end));
+        let mut bout = Bout::at(library, state, end);
+        for _ in 0..CALLS {
+            let end = bout.end();
+            let call = script.call(random, &end);
+            let (turn, _) = lend(random, call, &end);
+            let told = |difference| format!("of {:?}\n  {difference}", end.numbers());
+            bout.turn(random, &turn).map_err(told)?;
+            self.calls += 1;
+        }
+        Ok(())
+    }
+
+    pub fn report(&self, report: &mut Report) {
+        report.add("damaged states", &self.states, |(damage, taken)| {
+            let taken = if *taken { "still a state" } else { "refused" };
+            format!("{damage:?}, {taken}")
+        });
+        report.add("calls of those refused", &self.refused, |name| {
+            name.to_string()
+        });
+        report.count(self.calls, "calls of those that still were states");
+        report.count(self.odd, "of these were such as no calls lead to");
+    }
+}
+
+/// The end that a state shows; nothing where it is refused.
+fn shown(
+    library: &dyn Machine,
+    random: &mut Random,
+    state: &Lent<u8>,
+) -> Result<Option<End>, String> {
+    let before = Lent::numbers(random, END_NUMBERS);
+    let mut numbers = before.clone();
+    match library.show(state.slice(), numbers.slice_mut()) {
+        0 if state.len() == STATE_OCTETS => {
+            let shown = numbers.slice().first_chunk().and_then(End::from_numbers);
+            let told = || format!("no end has the numbers {:?}", numbers.slice());
+            shown.map(Some).ok_or_else(told)
+        }
+        10 if before.stray(&numbers).is_none() => Ok(None),
+        10 => Err(String::from("oam_show refuses and stores")),
+        other => Err(format!("oam_show gives {other:#x}")),
+    }
+}
+
+/// Whether an end is plainly such as no calls lead to.
+fn is_odd(end: &End) -> bool {
+    let any = end.discovery == Discovery::SendAny;
+    let holds = end.peer.is_some() || end.kept_field > 0 || end.last_event.is_some();
+    (end.role != Role::Idle && !any)
+        || (end.owed && !end.allows_information())
+        || (holds && !end.link_up)
+}

@@ -1,0 +1,103 @@
+//! What differs between two calls, in words.
+
+use crate::library::machine::Outcome;
+use crate::paper::machine::END_NUMBERS;
+use crate::trial::contest::place_told;
+use crate::trial::lent::Lent;
+use std::fmt::{Display, LowerHex};
+
+/// Names of an end's numbers.
+const NAMES: [&str; END_NUMBERS] = [
+    "configuration",
+    "size",
+    "OUI",
+    "vendor",
+    "source",
+    "required",
+    "link up",
+    "lost-link count",
+    "kept field",
+    "record held",
+    "record's version",
+    "record's revision",
+    "record's state",
+    "record's configuration",
+    "record's OAMPDU configuration",
+    "record's OUI",
+    "record's vendor",
+    "event number held",
+    "last event number",
+    "role",
+    "ticks",
+    "frames written",
+    "revision",
+    "next event number",
+    "dying gasp",
+    "critical event",
+    "owed",
+    "discovery",
+];
+
+#[derive(Default)]
+pub struct Differences(Vec<String>);
+
+impl Differences {
+    pub fn are_none(&self) -> bool {
+        self.0.is_empty()
+    }
+
+    /// The differences as one text that begins with what was called.
+    pub fn none_or(self, called: impl FnOnce() -> String) -> Result<(), String> {
+        match self.0.is_empty() {
+            true => Ok(()),
+            false => Err(format!("{}\n    {}", called(), self.0.join("\n    "))),
+        }
+    }
+
+    pub fn number(&mut self, what: &str, expected: u64, found: u64) {
+        if expected != found {
+            let text =
+                format!("{what}: expected {expected} ({expected:#x}), found {found} ({found:#x})");
+            self.0.push(text);
+        }
+    }
+
+    pub fn outcome(&mut self, expected: u64, found: u64) {
+        if expected != found {
+            let (expected, found) = (Outcome::of(expected), Outcome::of(found));
+            self.0.push(format!("expected {expected:?}"));
+            self.0.push(format!("found    {found:?}"));
+        }
+    }
+
+    pub fn memory<T>(&mut self, what: &str, expected: &Lent<T>, found: &Lent<T>)
+    where
+        T: Copy + PartialEq + Display + LowerHex,
+    {
+        if let Some(stray) = expected.stray(found) {
+            let place = place_told(&stray, expected.len());
+            self.0.push(format!("{what} {place}"));
+        }
+    }
+
+    /// The octets of a state are the library's own business, but a refusal keeps
+    /// them, and no call stores beside them.
+    pub fn state(&mut self, accepted: bool, before: &Lent<u8>, found: &Lent<u8>) {
+        let mut expected = before.clone();
+        if accepted {
+            expected.slice_mut().copy_from_slice(found.slice());
+        }
+        self.memory("the state", &expected, found);
+    }
+
+    /// Numbers that were shown, or memory that had to stay.
+    pub fn shown(&mut self, expected: &Lent<u64>, found: &Lent<u64>) {
+        let pairs = expected.slice().iter().zip(found.slice());
+        for ((expected, found), name) in pairs.zip(NAMES) {
+            self.number(name, *expected, *found);
+        }
+        if self.0.is_empty() {
+            self.memory("the numbers", expected, found);
+        }
+    }
+}

@@ -1,0 +1,249 @@
+//! The link machine: scripts of calls, each made of a library and of the paper's
+//! machine, and damaged states.
+
+mod bout;
+mod damaged;
+mod difference;
+mod happening;
+mod played;
+
+#[cfg(test)]
+pub mod tests;
+
+use super::lent::Room;
+use super::report::{Report, Tally};
+use super::turn::Turn;
+use crate::generate::machine::{
+    any_settings, directed_scripts, wrapping_second, wrapping_start, Script, SettingsFault,
+    WRAPPING, WRAPPING_SECONDS,
+};
+use crate::library::machine::{Call, Machine, Outcome, RECEIVED, STATE_OCTETS};
+use crate::paper::machine::{Discovery, End, Role, Settings};
+use crate::paper::{answer, LONGEST, SHORTEST};
+use crate::random::Random;
+use bout::Bout;
+use damaged::Damaged;
+use happening::{Happening, Seen};
+use played::Played;
+
+/// The fewest and the most calls of a script.
+const SCRIPT_CALLS: (usize, usize) = (100, 400);
+
+/// Makes `calls` calls in scripts, those of some directed scripts, and some on
+/// damaged states. It ends with the first difference.
+pub fn machine(library: &dyn Machine, seed: u64, calls: usize) -> Report {
+    let mut trial = Trial::new(library, seed);
+    let difference = trial.run(calls).err();
+    trial.report(difference)
+}
+
+struct Trial<'a> {
+    library: &'a dyn Machine,
+    random: Random,
+    calls: usize,
+    scripts: usize,
+    /// Scripts in which SEND_ANY was reached.
+    complete: usize,
+    fresh: Tally<u8>,
+    settings_faults: Tally<SettingsFault>,
+    answers: Tally<(&'static str, u8)>,
+    rooms: Tally<(Room, bool)>,
+    stands: Tally<(Discovery, Role)>,
+    happenings: Tally<Happening>,
+    damaged: Damaged,
+}
+
+impl<'a> Trial<'a> {
+    fn new(library: &'a dyn Machine, seed: u64) -> Self {
+        Trial {
+            library,
+            random: Random::new(seed),
+            calls: 0,
+            scripts: 0,
+            complete: 0,
+            fresh: Tally::expecting([answer::ACCEPTED, answer::VALUES]),
+            settings_faults: Tally::expecting(SettingsFault::ALL),
+            answers: Tally::expecting(possible_answers()),
+            rooms: Tally::expecting(possible_rooms()),
+            stands: Tally::expecting(possible_stands()),
+            happenings: Tally::expecting(Happening::ALL),
+            damaged: Damaged::new(),
+        }
+    }
+
+    fn run(&mut self, calls: usize) -> Result<(), String> {
+        while self.calls < calls {
+            self.script()?;
+        }
+        self.directed_scripts()
+    }
+
+    /// A script from a fresh end on, and a damaged state of the end that it left.
+    fn script(&mut self) -> Result<(), String> {
+        let Some(mut played) = self.begin()? else {
+            return Ok(());
+        };
+        let mut script = Script::new(&mut self.random, played.settings());
+        let (least, most) = SCRIPT_CALLS;
+        let mut complete = false;
+        for _ in 0..self.random.between(least, most) {
+            let end = played.end();
+            complete |= end.discovery == Discovery::SendAny;
+            let call = script.call(&mut self.random, &end);
+            self.call(&mut played, call)?;
+        }
+        self.complete += usize::from(complete);
+        self.damaged.try_one(&mut self.random, &mut script, &played)
+    }
+
+    /// Fresh ends, if the settings are in range and the state has its length.
+    fn begin(&mut self) -> Result<Option<Played<'a>>, String> {
+        let (settings, fault) = any_settings(&mut self.random);
+        let length = match self.random.below(8) {
+            0 => self.random.below(2 * STATE_OCTETS),
+            _ => STATE_OCTETS,
+        };
+        self.scripts += 1;
+        if let Some(fault) = fault {
+            self.settings_faults.count(fault);
+        }
+        let bout = Bout::fresh(self.library, &mut self.random, &settings, length)?;
+        self.fresh.count(match bout {
+            Some(_) => answer::ACCEPTED,
+            None => answer::VALUES,
+        });
+        Ok(bout.map(|bout| Played::new(self.library, settings, bout)))
+    }
+
+    /// The scripts for what chance would hardly find, and the long one in which
+    /// the revision and the event number wrap.
+    fn directed_scripts(&mut self) -> Result<(), String> {
+        for (settings, calls) in directed_scripts() {
+            self.directed(&settings, calls.into_iter())?;
+        }
+        let seconds = (0..WRAPPING_SECONDS).flat_map(|_| wrapping_second());
+        let calls = wrapping_start().into_iter().chain(seconds);
+        self.directed(&WRAPPING, calls)
+    }
+
+    fn directed(
+        &mut self,
+        settings: &Settings,
+        calls: impl Iterator<Item = Call>,
+    ) -> Result<(), String> {
+        let bout = Bout::fresh(self.library, &mut self.random, settings, STATE_OCTETS)?;
+        let bout = bout.ok_or("the settings of a directed script are refused")?;
+        let mut played = Played::new(self.library, *settings, bout);
+        for call in calls {
+            self.turn(&mut played, Turn::with_room(call))?;
+        }
+        Ok(())
+    }
+
+    /// Makes a call with any room.
+    fn call(&mut self, played: &mut Played, call: Call) -> Result<u8, String> {
+        let (turn, room) = lend(&mut self.random, call, &played.end());
+        let answer = self.turn(played, turn)?;
+        self.rooms.count((room, answer == answer::OUTPUT));
+        Ok(answer)
+    }
+
+    /// The paper's answer.
+    fn turn(&mut self, played: &mut Played, turn: Turn) -> Result<u8, String> {
+        let before = played.end();
+        let name = turn.call.name();
+        let outcome = Outcome::of(played.turn(&mut self.random, turn)?);
+        self.calls += 1;
+        self.answers.count((name, outcome.answer));
+        let after = played.end();
+        self.stands.count((after.discovery, after.role));
+        let seen = Seen::new(&before, played.last_call(), &after, &outcome);
+        for happening in seen.happenings() {
+            self.happenings.count(happening);
+        }
+        Ok(outcome.answer)
+    }
+
+    fn report(self, difference: Option<String>) -> Report {
+        let differs = difference.is_some();
+        let mut report = Report::with(difference.into_iter().collect());
+        if differs {
+            return report; // all that follows would be missed
+        }
+        report.count(self.scripts, "scripts begun");
+        report.count(self.complete, "of them came to SEND_ANY");
+        report.count(self.calls, "calls compared");
+        report.add("calls of oam_fresh", &self.fresh, |answer| {
+            format!("answered {answer}")
+        });
+        report.add_many("settings out of range", &self.settings_faults, |fault| {
+            format!("{fault:?}")
+        });
+        report.add("calls", &self.answers, |(name, answer)| {
+            format!("{name}, answered {answer}")
+        });
+        report.add("outputs", &self.rooms, |(room, short)| {
+            let answered = if *short { "9" } else { "otherwise" };
+            format!("of the length {room:?}, answered {answered}")
+        });
+        report.add("calls that left an end in", &self.stands, |stand| {
+            format!("{:?}, {:?}", stand.0, stand.1)
+        });
+        report.add("what came of calls", &self.happenings, |happening| {
+            format!("{happening:?}")
+        });
+        self.damaged.report(&mut report);
+        report
+    }
+}
+
+/// Lends a call the room for the frame that it would write, less or more.
+fn lend(random: &mut Random, call: Call, end: &End) -> (Turn, Room) {
+    let step = call.step(end, &mut [0; LONGEST]);
+    let length = step.map_or(SHORTEST, |step| step.length.max(SHORTEST));
+    let room = match random.below(16) {
+        0 => random.pick(&[Room::OneLess, Room::None, Room::Any]),
+        1..=4 => Room::More,
+        _ => Room::Exact,
+    };
+    let header = match random.below(32) {
+        0 => random.below(RECEIVED),
+        1..=4 => random.between(RECEIVED + 1, 2 * RECEIVED),
+        _ => RECEIVED,
+    };
+    let out = room.of(random, length);
+    (Turn { call, header, out }, room)
+}
+
+/// A loopback command has 60 octets, which no maximum size forbids.
+fn possible_answers() -> Vec<(&'static str, u8)> {
+    let answers_of = |name: &'static str| -> Vec<u8> {
+        match name {
+            "oam_tick" => vec![0, 9],
+            "oam_report" => vec![0, 9, 10],
+            "oam_receive" => (0..=9).collect(),
+            "oam_start" | "oam_stop" => vec![0, 9, 11, 13, 15],
+            "oam_request" => vec![0, 9, 10, 11, 12, 13, 15],
+            _ => vec![0, 9, 10, 11, 12, 13],
+        }
+    };
+    let each = |name| {
+        answers_of(name)
+            .into_iter()
+            .map(move |answer| (name, answer))
+    };
+    Call::NAMES.into_iter().flat_map(each).collect()
+}
+
+/// Of enough room only a header too short is answered 9.
+fn possible_rooms() -> Vec<(Room, bool)> {
+    let each = |room| [(room, false), (room, true)];
+    Room::ALL.into_iter().flat_map(each).collect()
+}
+
+/// Only in SEND_ANY a role is other than Idle.
+fn possible_stands() -> Vec<(Discovery, Role)> {
+    let idle = Discovery::ALL.map(|discovery| (discovery, Role::Idle));
+    let any = Role::ALL.map(|role| (Discovery::SendAny, role));
+    idle.into_iter().chain(any).collect()
+}

@@ -1,0 +1,103 @@
+//! A script as far as it was played, kept so that it can be told.
+
+use super::bout::Bout;
+use crate::compare::last_lines;
+use crate::library::machine::{Call, Machine, STATE_OCTETS};
+use crate::paper::machine::{End, Settings};
+use crate::random::Random;
+use crate::trial::turn::Turn;
+
+/// A longer script is not shortened.
+const MOST_SHORTENED: usize = 2_000;
+
+pub struct Played<'a> {
+    library: &'a dyn Machine,
+    settings: Settings,
+    pub bout: Bout<'a>,
+    turns: Vec<Turn>,
+}
+
+impl<'a> Played<'a> {
+    pub fn new(library: &'a dyn Machine, settings: Settings, bout: Bout<'a>) -> Self {
+        Played {
+            library,
+            settings,
+            bout,
+            turns: Vec::new(),
+        }
+    }
+
+    pub fn settings(&self) -> &Settings {
+        &self.settings
+    }
+
+    pub fn library(&self) -> &'a dyn Machine {
+        self.library
+    }
+
+    pub fn end(&self) -> End {
+        self.bout.end()
+    }
+
+    pub fn last_call(&self) -> &Call {
+        &self.turns.last().expect("a call was made").call
+    }
+
+    /// Plays a turn: its outcome, or the difference with the script that led to
+    /// it, as short as it can be.
+    pub fn turn(&mut self, random: &mut Random, turn: Turn) -> Result<u64, String> {
+        let outcome = self.bout.turn(random, &turn);
+        self.turns.push(turn);
+        outcome.map_err(|difference| self.told(difference))
+    }
+
+    fn told(&self, difference: String) -> String {
+        let mut turns = self.turns.clone();
+        let mut difference = difference;
+        if turns.len() <= MOST_SHORTENED {
+            if let Some(shorter) = self.shortened(&turns) {
+                (turns, difference) = shorter;
+            }
+        }
+        let settings = &self.settings;
+        let calls = turns[..turns.len() - 1].iter().map(Turn::to_string);
+        let script = last_lines(calls).join("\n    ");
+        format!(
+            "{difference}\n  in the state that these calls led to\n    {settings:x?}\n    {script}"
+        )
+    }
+
+    /// Leaves out as many turns as it can, so long as there is a difference.
+    fn shortened(&self, turns: &[Turn]) -> Option<(Vec<Turn>, String)> {
+        let with_room = |turn: &Turn| Turn::with_room(turn.call.clone());
+        let roomy: Vec<Turn> = turns.iter().map(with_room).collect();
+        let mut shortest = self.failing(&roomy).or_else(|| self.failing(turns))?;
+        let mut size = turns.len() / 2;
+        while size > 0 {
+            let mut start = 0;
+            while start < shortest.0.len() {
+                let behind = (start + size).min(shortest.0.len());
+                let fewer = [&shortest.0[..start], &shortest.0[behind..]].concat();
+                match self.failing(&fewer) {
+                    Some(shorter) => shortest = shorter,
+                    None => start += size,
+                }
+            }
+            size /= 2;
+        }
+        Some(shortest)
+    }
+
+    /// Plays turns anew, up to the first difference.
+    fn failing(&self, turns: &[Turn]) -> Option<(Vec<Turn>, String)> {
+        let mut random = Random::new(0);
+        let bout = Bout::fresh(self.library, &mut random, &self.settings, STATE_OCTETS);
+        let mut bout = bout.ok()??;
+        for (turn, count) in turns.iter().zip(1..) {
+            if let Err(difference) = bout.turn(&mut random, turn) {
+                return Some((turns[..count].to_vec(), difference));
+            }
+        }
+        None
+    }
+}

@@ -1,0 +1,358 @@
+//! A machine with one slip.
+
+use crate::library::machine::{packed, unpacked, Call, Machine, Outcome, RECEIVED, STATE_OCTETS};
+use crate::library::ByPaper;
+use crate::paper::machine::{
+    configuration, Discovery, End, Report, Role, Settings, COMPLETE, LOST_LINK, MOST_FRAMES,
+    SMALLEST_SIZE,
+};
+use crate::paper::{answer, check, code, joined, read, Body, Heading};
+use std::cell::Cell;
+
+#[derive(Clone, Copy, Debug, PartialEq, Eq)]
+pub enum Slip {
+    LosesTheLinkAt49,
+    LosesTheLinkAt51,
+    RefusedFrameRestartsTheCount,
+    RefusedTickCounts,
+    Field3Overwrites,
+    EnableObeyedBeforeSendAny,
+    EnableObeyedAtEqualAddress,
+    LoopsWithoutEnable,
+    ElevenFrames,
+    RoleKeptOutsideSendAny,
+    NoRevisionAtLinkDown,
+    RequestSettlesWhatIsOwed,
+    OwedWhereNotAllowed,
+    OwedBelongsToTheOldSecond,
+    RepeatsShowEvents,
+    RepeatStoresItsNumber,
+    KeptFieldSentWithoutRecord,
+    RemoteStateAsReceived,
+    ClearsOutput,
+    RefusalStoresHeader,
+    RefusalHasNoOctet,
+    DiscoveryBeforeValues,
+    LimitBeforeSize,
+    TakesSize63,
+    TakesLongerStates,
+    BadStateClearsOutput,
+    ShowsNothingOwed,
+    ShowsWithLessRoom,
+    LostLinkOwesInActiveSendLocal,
+    LostLinkDropsWhatIsOwed,
+    LinkDownClearsTheCount,
+    LinkUpKeepsTheCount,
+    RecordActsAtStart,
+    DisableNeedsAnActivePeer,
+    StartNeedsNoLoopbackOfThePeer,
+    FirstNumberIs1,
+    NumberWrapsTo1,
+    RevisionStopsAt65535,
+    EventKeptOutsideSendAny,
+    EventKeptOverFault,
+    OnlyTheOwnSizeCounts,
+    ReadsBeforeOutput,
+}
+
+impl Slip {
+    pub const ALL: [Slip; 42] = [
+        Slip::LosesTheLinkAt49,
+        Slip::LosesTheLinkAt51,
+        Slip::RefusedFrameRestartsTheCount,
+        Slip::RefusedTickCounts,
+        Slip::Field3Overwrites,
+        Slip::EnableObeyedBeforeSendAny,
+        Slip::EnableObeyedAtEqualAddress,
+        Slip::LoopsWithoutEnable,
+        Slip::ElevenFrames,
+        Slip::RoleKeptOutsideSendAny,
+        Slip::NoRevisionAtLinkDown,
+        Slip::RequestSettlesWhatIsOwed,
+        Slip::OwedWhereNotAllowed,
+        Slip::OwedBelongsToTheOldSecond,
+        Slip::RepeatsShowEvents,
+        Slip::RepeatStoresItsNumber,
+        Slip::KeptFieldSentWithoutRecord,
+        Slip::RemoteStateAsReceived,
+        Slip::ClearsOutput,
+        Slip::RefusalStoresHeader,
+        Slip::RefusalHasNoOctet,
+        Slip::DiscoveryBeforeValues,
+        Slip::LimitBeforeSize,
+        Slip::TakesSize63,
+        Slip::TakesLongerStates,
+        Slip::BadStateClearsOutput,
+        Slip::ShowsNothingOwed,
+        Slip::ShowsWithLessRoom,
+        Slip::LostLinkOwesInActiveSendLocal,
+        Slip::LostLinkDropsWhatIsOwed,
+        Slip::LinkDownClearsTheCount,
+        Slip::LinkUpKeepsTheCount,
+        Slip::RecordActsAtStart,
+        Slip::DisableNeedsAnActivePeer,
+        Slip::StartNeedsNoLoopbackOfThePeer,
+        Slip::FirstNumberIs1,
+        Slip::NumberWrapsTo1,
+        Slip::RevisionStopsAt65535,
+        Slip::EventKeptOutsideSendAny,
+        Slip::EventKeptOverFault,
+        Slip::OnlyTheOwnSizeCounts,
+        Slip::ReadsBeforeOutput,
+    ];
+}
+
+/// The paper's machine with one slip.
+pub struct Slipping {
+    slip: Slip,
+    /// The lost-link count stood still once.
+    late: Cell<bool>,
+}
+
+impl Machine for Slipping {
+    fn fresh(&self, settings: &Settings, state: &mut [u8]) -> u64 {
+        let mut settings = *settings;
+        if self.slip == Slip::TakesSize63 && settings.size == 63 {
+            settings.size = 64;
+        }
+        ByPaper.fresh(&settings, state)
+    }
+
+    fn call(&self, call: &Call, header: &mut [u64], state: &mut [u8], out: &mut [u8]) -> u64 {
+        let length = state.len();
+        let state = match self.slip {
+            Slip::TakesLongerStates => &mut state[..length.min(STATE_OCTETS)],
+            _ => state,
+        };
+        let Some(before) = unpacked(state) else {
+            if self.slip == Slip::BadStateClearsOutput {
+                out.fill(0);
+            }
+            return ByPaper.call(call, header, state, out);
+        };
+        let (mut end, mut given) = (before, call.clone());
+        self.prepare(&mut end, &mut given);
+        let mut working = packed(&end);
+        let outcome = ByPaper.call(&given, header, &mut working, out);
+        let mut after = unpacked(&working).expect("a state");
+        let Outcome { answer, length, .. } = Outcome::of(outcome);
+        let outcome = if answer == answer::ACCEPTED {
+            self.restore(&before, &end, call, &mut after, header);
+            self.accepted(&before, call, &mut after);
+            self.stored(&after, call, length, header, out);
+            outcome & !(0xFF << 40) | u64::from(after.role.octet()) << 40
+        } else {
+            after = before;
+            self.refused(&mut after, call, outcome, header)
+        };
+        state.copy_from_slice(&packed(&after));
+        outcome
+    }
+
+    fn show(&self, state: &[u8], numbers: &mut [u64]) -> u64 {
+        if self.slip == Slip::ShowsWithLessRoom && numbers.len() == 27 {
+            return answer::ACCEPTED.into();
+        }
+        let outcome = ByPaper.show(state, numbers);
+        if self.slip == Slip::ShowsNothingOwed && outcome == 0 {
+            numbers[26] = 0;
+        }
+        outcome
+    }
+}
+
+impl Slipping {
+    pub fn new(slip: Slip) -> Self {
+        Slipping {
+            slip,
+            late: Cell::new(false),
+        }
+    }
+
+    /// Alters what the paper's machine is given.
+    fn prepare(&self, end: &mut End, call: &mut Call) {
+        let full = call.is_request() && end.written == MOST_FRAMES;
+        match (self.slip, call) {
+            (Slip::LosesTheLinkAt49, Call::Tick) if end.lost_link == LOST_LINK - 2 => {
+                end.lost_link += 1;
+            }
+            (Slip::LosesTheLinkAt51, Call::Tick) if end.link_up => {
+                let late = end.lost_link == LOST_LINK - 1 && !self.late.get();
+                end.lost_link -= u8::from(late);
+                self.late.set(late);
+            }
+            (Slip::Field3Overwrites, Call::Receive(frame)) if has_field_3(frame) => {
+                frame[16] &= !0x18;
+            }
+            (Slip::EnableObeyedAtEqualAddress, Call::Receive(frame))
+                if is_command(frame, 1) && joined(&frame[6..12]) == end.settings.source =>
+            {
+                let lower = end.settings.source.saturating_sub(1).to_be_bytes();
+                frame[6..12].copy_from_slice(&lower[2..]);
+            }
+            (Slip::ElevenFrames, _) if full => end.written -= 1,
+            (Slip::RepeatsShowEvents, Call::Receive(frame)) if is_notification(frame) => {
+                end.last_event = None;
+            }
+            (_, call) if call.is_request() => self.prepare_peer(end),
+            _ => {}
+        }
+    }
+
+    /// Alters the record for a request.
+    fn prepare_peer(&self, end: &mut End) {
+        let Some(peer) = &mut end.peer else {
+            return;
+        };
+        match self.slip {
+            Slip::OnlyTheOwnSizeCounts if peer.maximum_size() >= SMALLEST_SIZE => {
+                peer.pdu_configuration |= 0x07FF;
+            }
+            Slip::StartNeedsNoLoopbackOfThePeer => peer.configuration |= configuration::LOOPBACK,
+            _ => {}
+        }
+    }
+
+    /// Takes back what was altered, where the call did not overwrite it.
+    fn restore(&self, before: &End, given: &End, call: &Call, after: &mut End, header: &mut [u64]) {
+        if after.peer == given.peer {
+            after.peer = before.peer;
+        }
+        if let Call::Receive(frame) = call {
+            header[0] = joined(&frame[6..12]);
+            header[1] = joined(&frame[15..17]);
+        }
+    }
+
+    /// Alters the end that an accepted call leaves.
+    fn accepted(&self, before: &End, call: &Call, after: &mut End) {
+        match call {
+            Call::Tick => self.ticked(before, after),
+            Call::Report(number) => self.reported(*number, before, after),
+            Call::Receive(frame) => self.received(frame, before, after),
+            _ => self.requested(call, before, after),
+        }
+        let any = |end: &End| end.discovery == Discovery::SendAny;
+        match self.slip {
+            Slip::RoleKeptOutsideSendAny if any(before) && !any(after) => after.role = before.role,
+            Slip::OwedWhereNotAllowed if !after.allows_information() => after.owed = before.owed,
+            Slip::EventKeptOverFault if after.last_event.is_none() => {
+                after.last_event = before.last_event;
+            }
+            Slip::RevisionStopsAt65535 if before.revision == u16::MAX => {
+                after.revision = before.revision;
+            }
+            _ => {}
+        }
+    }
+
+    fn ticked(&self, before: &End, after: &mut End) {
+        let lost = after.lost_link < before.lost_link;
+        let lost_alone = lost && before.discovery == Discovery::ActiveSendLocal;
+        match self.slip {
+            Slip::OwedBelongsToTheOldSecond if after.ticks == 0 => after.written = 0,
+            Slip::LostLinkOwesInActiveSendLocal if lost_alone => after.owed = true,
+            Slip::LostLinkDropsWhatIsOwed if lost_alone => after.owed = false,
+            _ => {}
+        }
+    }
+
+    fn reported(&self, number: u8, before: &End, after: &mut End) {
+        let down = number == Report::LinkDown as u8;
+        match self.slip {
+            Slip::NoRevisionAtLinkDown if down => after.revision = before.revision,
+            Slip::LinkDownClearsTheCount if down => after.lost_link = 0,
+            Slip::LinkUpKeepsTheCount => after.lost_link = before.lost_link,
+            _ => {}
+        }
+    }
+
+    fn received(&self, frame: &[u8], before: &End, after: &mut End) {
+        let any = after.discovery == Discovery::SendAny;
+        let passive_peer = after.peer.is_some_and(|peer| !peer.is_active());
+        match self.slip {
+            Slip::EnableObeyedBeforeSendAny if is_command(frame, 1) && after.link_up => {
+                after.role = Role::Looping;
+            }
+            Slip::LoopsWithoutEnable if any => after.role = Role::Looping,
+            Slip::DisableNeedsAnActivePeer if any && is_command(frame, 2) && passive_peer => {
+                after.role = before.role;
+            }
+            Slip::EventKeptOutsideSendAny if is_notification(frame) && after.link_up => {
+                after.last_event = Some(joined(&frame[18..20]) as u16);
+            }
+            _ => {}
+        }
+    }
+
+    fn requested(&self, call: &Call, before: &End, after: &mut End) {
+        let looped = |end: &End| end.peer.is_some_and(|peer| peer.state & 7 == 5);
+        match (self.slip, call) {
+            (Slip::RequestSettlesWhatIsOwed, _) => after.owed = false,
+            (Slip::RecordActsAtStart, Call::Start) if looped(before) => after.role = Role::Holding,
+            (Slip::NumberWrapsTo1, Call::Notify(_)) if after.event_number == 0 => {
+                after.event_number = 1;
+            }
+            _ => {}
+        }
+    }
+
+    /// Alters what an accepted call stores.
+    fn stored(&self, after: &End, call: &Call, length: usize, header: &mut [u64], out: &mut [u8]) {
+        let wrote_information = length > 0 && out[17] == code::INFORMATION;
+        match (self.slip, call) {
+            (Slip::RepeatStoresItsNumber, Call::Receive(frame)) if is_notification(frame) => {
+                header[3] = joined(&frame[18..20]);
+            }
+            (Slip::FirstNumberIs1, Call::Notify(_)) => {
+                out[18..20].copy_from_slice(&after.event_number.to_be_bytes());
+            }
+            (Slip::KeptFieldSentWithoutRecord, _) if wrote_information => {
+                out[16] |= after.kept_field.min(COMPLETE) << 5;
+            }
+            (Slip::RemoteStateAsReceived, _) if wrote_information && out[34] == 2 => {
+                out[39] = after.peer.map_or(0, |peer| peer.state);
+            }
+            (Slip::ClearsOutput, _) => out[length..].fill(0),
+            _ => {}
+        }
+    }
+
+    /// Alters a refusal.
+    fn refused(&self, end: &mut End, call: &Call, outcome: u64, header: &mut [u64]) -> u64 {
+        let answer = Outcome::of(outcome).answer;
+        match (self.slip, call) {
+            (Slip::RefusedFrameRestartsTheCount, Call::Receive(_)) => end.lost_link = 0,
+            (Slip::RefusedTickCounts, Call::Tick) => end.ticks = (end.ticks + 1) % 10,
+            (Slip::RefusalStoresHeader, Call::Receive(_)) => header.fill(0),
+            (Slip::RefusalHasNoOctet, _) => return answer.into(),
+            (Slip::ReadsBeforeOutput, Call::Receive(frame)) if header.len() >= RECEIVED => {
+                let reading = check(frame).err().unwrap_or(answer);
+                return outcome - u64::from(answer) + u64::from(reading);
+            }
+            (Slip::DiscoveryBeforeValues, Call::Notify(_))
+                if answer == answer::VALUES && end.discovery != Discovery::SendAny =>
+            {
+                return outcome + 1;
+            }
+            (Slip::LimitBeforeSize, _) if answer == answer::SIZE && end.written == MOST_FRAMES => {
+                return outcome + 1;
+            }
+            _ => {}
+        }
+        outcome
+    }
+}
+
+fn has_field_3(frame: &[u8]) -> bool {
+    check(frame).is_ok_and(|Heading { flags, .. }| flags & 0x18 == 0x18)
+}
+
+fn is_notification(frame: &[u8]) -> bool {
+    check(frame).is_ok_and(|Heading { code, .. }| code == code::NOTIFICATION)
+}
+
+fn is_command(frame: &[u8], wanted: u8) -> bool {
+    let body = read(frame).map(|message| message.body);
+    matches!(body, Ok(Body::Loopback { command }) if command == wanted)
+}
