@@ -1,0 +1,56 @@
+#!/usr/bin/env bash
+# Changes the machine's definitions, one at a time, and sees that the theorems of `reach` and `pair` no longer hold. `rt
+# must-fail` cannot do this: it changes and proves one crate alone, and the definitions are those of `end` and `link`. Here their
+# code is left out (its contracts would fail before any theorem), so that what is tried is the theorems. Each edit is a file in
+# tests/definitions, in the form of the must-fail edits. Run after `rt check pair`, whose proofs of `frame` and `writer` it uses.
+set -euo pipefail
+cd "$(dirname "$0")/.."
+edits="$PWD/tests/definitions"
+room="$PWD/target/definitions"
+rm -rf "$room"
+trap 'rm -rf "$room"' EXIT
+mkdir -p "$room/crates" "$room/target/rlib"
+for crate in frame writer end link reach pair; do
+  cp -r "crates/$crate" "$room/crates/"
+  grep "^$crate:" crates.txt >> "$room/crates.txt"
+done
+cp -r target/stamp target/log "$room/target/"
+cp -r target/rlib/frame.rlib target/rlib/writer.rlib "$room/target/rlib/"
+cd "$room/crates"
+
+# The types of a source file, without its functions and what only they use.
+types='
+  /^(pub |pub\(crate\) )?fn / || /^impl / { skipping = 1 }
+  skipping { if ($0 == "}") skipping = 0; next }
+  /^pub use / || /^ghost use / || /^use .*::[a-z_0-9]+;$/ { next }
+  { print }'
+for crate in end link; do
+  for source in "$crate"/src/*.rt; do
+    awk "$types" "$source" > types && mv types "$source"
+  done
+  rm -r "$crate"/proofs/*/ "$crate/must-fail"
+done
+cd ..
+rt check pair > log 2>&1 || { cat log; echo "definitions: the theorems do not hold before any edit"; exit 1; }
+
+line() { sed -n "s/^$1: //p" "$2"; }
+failed=0
+for edit in "$edits"/*.edit; do
+  name=$(basename "$edit" .edit)
+  file=$(line file "$edit")
+  old=$(line old "$edit") new=$(line new "$edit")
+  [ "$(grep -cxF -- "$old" "$file")" = 1 ] || { echo "definitions: $name: its old line stands not once"; exit 1; }
+  cp "$file" before
+  OLD="$old" NEW="$new" awk '{ print $0 == ENVIRON["OLD"] ? ENVIRON["NEW"] : $0 }' before > "$file"
+  status=0
+  rt check pair > log 2>&1 || status=$?
+  cp before "$file"
+  first=$(grep -a -o -m1 -E 'crates/(reach|pair)/proofs/[A-Za-z]+\.antt:[0-9]+:[0-9]+: error' log || true)
+  if [ "$status" = 1 ] && [ -n "$first" ] && ! grep -a -q 'is not in scope' log; then
+    echo "definitions: $name: refused, as it must be (first at ${first%: error})"
+  else
+    echo "definitions: $name: NOT refused by a theorem (exit $status)"
+    failed=1
+  fi
+done
+exit "$failed"
