@@ -7,6 +7,9 @@ use Rattle.end.specs.declared.Meter.{Meter}
 abbrev pub newMeter : Meter
 newMeter = record { ticks = 0; written = 0 }
 
+abbrev pub meterOf : ℕ → ℕ → Meter
+meterOf ticks written = record { ticks = ticks; written = written }
+
 -- the numbers that a meter comes to: a second has ten ticks and at most ten frames
 unfoldable pub bounded : Meter → Bool
 bounded m = ltb (m .ticks) 10 && leb (m .written) 10

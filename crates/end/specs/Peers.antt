@@ -55,3 +55,12 @@ keptFrom flags kept = cond (eqb (flagsOf flags .local) 3) kept (flagsOf flags .l
 abbrev pub recordFrom : Held → Held → Held
 recordFrom Nothing peer = peer
 recordFrom (Is i) peer = Is i
+
+-- what a peer record says, all zero where none is held
+abbrev pub told : Held → Information
+told Nothing = record { version = 0; revision = 0; state = 0; configuration = 0; oampdu = 0; oui = 0; vendor = 0 }
+told (Is i) = i
+
+-- the peer record that says something, or none
+abbrev pub heldOf : Bool → Information → Held
+heldOf held i = cond held (Is i) Nothing

@@ -35,3 +35,12 @@ roleIn SendAny role = role
 -- "A tick with the link up adds 1 to the lost-link count; 50 enters FAULT and clears it.": the count before that tick
 abbrev pub isLost : ℕ → Bool
 isLost lost = leb 49 lost
+
+-- the number that a caller knows each place by
+abbrev pub placeOf : Discovery → ℕ
+placeOf Fault = 0
+placeOf ActiveSendLocal = 1
+placeOf PassiveWait = 2
+placeOf SendLocalRemote = 3
+placeOf SendLocalRemoteOk = 4
+placeOf SendAny = 5

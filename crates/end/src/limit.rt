@@ -1,6 +1,7 @@
-// The limit on frames: ten in a timer second, which every tenth tick from fresh closes. Nothing else looks inside a meter.
+// The limit on frames: ten in a timer second, which every tenth tick from fresh closes. Nothing else steps a meter; its two
+// numbers are given out and taken back for an end that is kept as numbers.
 ghost use mathlib.Core.Path.{_≡_};
-ghost use Rattle.end.specs.Limit.{newMeter, room, chargedMeter, closing, turnedMeter};
+ghost use Rattle.end.specs.Limit.{newMeter, meterOf, bounded, room, chargedMeter, closing, turnedMeter};
 use crate::Meter;
 
 pub fn new_meter() -> Meter
@@ -50,4 +51,38 @@ pub fn turned(meter: Meter) -> Meter
         ticks: meter.ticks + 1,
         ..meter
     }
+}
+
+// The ticks since a timer second closed.
+pub fn ticks(meter: Meter) -> u8
+    ensures { λ r. ⌜ r ≡ meter .ticks ⌝ }
+{
+    meter.ticks
+}
+
+// The frames written since then.
+pub fn written(meter: Meter) -> u8
+    ensures { λ r. ⌜ r ≡ meter .written ⌝ }
+{
+    meter.written
+}
+
+// The meter of two numbers.
+pub fn meter_of(ticks: u8, written: u8) -> Meter
+    ensures { λ r. ⌜ r ≡ meterOf ticks written ⌝ }
+{
+    Meter {
+        ticks: ticks,
+        written: written,
+    }
+}
+
+// Whether a meter can come to its numbers.
+pub fn is_bounded(meter: Meter) -> bool
+    ensures { λ r. ⌜ r ≡ bounded meter ⌝ }
+{
+    if meter.ticks < 10 {
+        return meter.written <= 10;
+    }
+    false
 }

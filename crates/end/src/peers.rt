@@ -1,7 +1,7 @@
 // What is kept of a received frame, what a peer record says, and whether an end is satisfied by it.
 ghost use mathlib.Core.Path.{_≡_};
 ghost use mathlib.Core.Bool.{_&&_, _||_};
-ghost use Rattle.end.specs.Peers.{maximumOf, hasAll, satisfies, satisfied, held, peerActive, peerLoopback, peerMaximum, keptFrom, recordFrom};
+ghost use Rattle.end.specs.Peers.{maximumOf, hasAll, satisfies, satisfied, held, peerActive, peerLoopback, peerMaximum, keptFrom, recordFrom, told, heldOf};
 use crate::Settings;
 use crate::bits::is_active;
 use crate::bits::is_loopback;
@@ -27,13 +27,19 @@ pub fn either(a: bool, b: bool) -> bool
     if a { true } else { b }
 }
 
-pub(crate) fn all_three(a: bool, b: bool, c: bool) -> bool
+pub fn both(a: bool, b: bool) -> bool
+    ensures { λ r. ⌜ r ≡ (a && b) ⌝ }
+{
+    if a { b } else { false }
+}
+
+pub fn all_three(a: bool, b: bool, c: bool) -> bool
     ensures { λ r. ⌜ r ≡ (a && (b && c)) ⌝ }
 {
     if a { if b { c } else { false } } else { false }
 }
 
-fn all_four(a: bool, b: bool, c: bool, d: bool) -> bool
+pub fn all_four(a: bool, b: bool, c: bool, d: bool) -> bool
     ensures { λ r. ⌜ r ≡ (a && (b && (c && d))) ⌝ }
 {
     if a {
@@ -122,4 +128,29 @@ pub fn record_from(local: Held, peer: Held) -> Held
         Held::Nothing => peer,
         Held::Is(i) => Held::Is(i),
     }
+}
+
+// What a peer record says, all zero where none is held.
+pub fn told(peer: Held) -> Information
+    ensures { λ r. ⌜ r ≡ told peer ⌝ }
+{
+    match peer {
+        Held::Nothing => Information {
+            version: 0,
+            revision: 0,
+            state: 0,
+            configuration: 0,
+            oampdu: 0,
+            oui: 0,
+            vendor: 0,
+        },
+        Held::Is(i) => i,
+    }
+}
+
+// The peer record that says something, or none.
+pub fn held_of(held: bool, i: Information) -> Held
+    ensures { λ r. ⌜ r ≡ heldOf held i ⌝ }
+{
+    if held { Held::Is(i) } else { Held::Nothing }
 }

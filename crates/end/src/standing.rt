@@ -1,7 +1,7 @@
 // Where discovery stands once no move applies, the role there, and when silence has lost the link.
 ghost use mathlib.Core.Path.{_≡_};
 ghost use mathlib.Core.Bool.{true};
-ghost use Rattle.end.specs.Standing.{standsAt, isAny, roleIn, isLost};
+ghost use Rattle.end.specs.Standing.{standsAt, isAny, roleIn, isLost, placeOf};
 use crate::Discovery;
 use crate::Role;
 
@@ -68,4 +68,20 @@ pub fn is_lost(lost: u8) -> bool
     ensures { λ r. ⌜ r ≡ isLost lost ⌝ }
 {
     49 <= lost
+}
+
+impl Discovery {
+    // The number that a caller knows each place by.
+    pub fn number(self) -> u8
+        ensures { λ r. ⌜ r ≡ placeOf self ⌝ }
+    {
+        match self {
+            Discovery::Fault => 0,
+            Discovery::ActiveSendLocal => 1,
+            Discovery::PassiveWait => 2,
+            Discovery::SendLocalRemote => 3,
+            Discovery::SendLocalRemoteOk => 4,
+            Discovery::SendAny => 5,
+        }
+    }
 }

@@ -5,3 +5,4 @@ pub mod Hearing
 pub mod Reports
 pub mod Requests
 pub mod Ranges
+pub mod Numbers

@@ -48,10 +48,9 @@ idle Looping = false
 unfoldable pub blank : Peer → Bool
 blank p = eqb (p .kept) 0 && (not (held (p .held)) && never (p .last))
 
-unfoldable pub ranged : End → Bool
-ranged e =
-    all
-    (sound (e .settings)
+abbrev pub tests : End → List Bool
+tests e =
+    sound (e .settings)
     ∷ ltb (e .settings .vendor) (2 ^ 32)
     ∷ ltb (e .link .lost) 50
     ∷ leb (e .peer .kept) 2
@@ -63,4 +62,7 @@ ranged e =
     ∷ ltb (e .own .revision) (2 ^ 16)
     ∷ ltb (e .own .number) (2 ^ 16)
     ∷ (not (e .own .owed) || allowed e)
-    ∷ [])
+    ∷ []
+
+unfoldable pub ranged : End → Bool
+ranged e = all (tests e)

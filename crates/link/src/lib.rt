@@ -4,6 +4,8 @@
 // length of the frame that was written into the lent output (0 for none), the State octet with the parser and multiplexer
 // actions, and what is shown. A refusal gives the same end and leaves the output as it was.
 mod hearing;
+mod numbers;
+mod ranges;
 mod reporting;
 mod requesting;
 mod sending;
@@ -16,13 +18,18 @@ use end::Settings;
 use frame::Header;
 use frame::Held;
 pub use hearing::receive;
+pub use numbers::end_from;
+pub use numbers::numbers_of;
 pub use reporting::take_report;
 pub use requesting::notify;
 pub use requesting::request_variables;
 pub use requesting::send_organization;
 pub use requesting::start;
 pub use requesting::stop;
+pub use state::discovery;
 pub use state::fresh;
+pub use state::role;
+pub use state::written;
 pub use ticking::tick;
 
 // The optics' side: whether the link is up, and the lost-link count.

@@ -37,7 +37,7 @@ pub(crate) fn flags(e: End) -> u16
     })
 }
 
-fn is_allowed(e: End) -> bool
+pub(crate) fn is_allowed(e: End) -> bool
     ensures { λ r. ⌜ r ≡ allowed e ⌝ }
 {
     end::allowed_in(discovery(e), is_fault(e))

@@ -52,7 +52,7 @@ pub fn fresh(settings: Settings) -> FreshEnd
 }
 
 // Where discovery stands.
-pub(crate) fn discovery(e: End) -> Discovery
+pub fn discovery(e: End) -> Discovery
     ensures { λ r. ⌜ r ≡ discoveryOf e ⌝ }
 {
     let settings = e.settings;
@@ -92,4 +92,17 @@ pub(crate) fn settle(e: End) -> End
     let role = e.role;
     let next = end::role_in(discovery(e), role);
     End { role: next, ..e }
+}
+
+pub fn role(e: End) -> Role
+    ensures { λ r. ⌜ r ≡ e .role ⌝ }
+{
+    e.role
+}
+
+// The frames written since a timer second closed.
+pub fn written(e: End) -> u8
+    ensures { λ r. ⌜ r ≡ e .meter .written ⌝ }
+{
+    end::written(e.meter)
 }

@@ -21,6 +21,13 @@ use Rattle.writer.proofs.Lengths.{length-oct}
 pub octets-from : (s : List ℕ) → Octets s → (n : ℕ) → Octets (drop n s)
 octets-from s o n i = rw getD-drop (o (n + i))
 
+-- numbers that fit their widths: each of them
+pub fit-at : (ws vs : List ℕ) (i : ℕ) → i < length ws → i < length vs → fit ws vs ≡ true → getD vs i 0 < 256 ^ getD ws i 0
+fit-at [] vs i h k e = absurd (omega arith)
+fit-at (w ∷ ws) [] i h k e = absurd (omega arith)
+fit-at (w ∷ ws) (v ∷ vs) zero h k e = ltb-true v (256 ^ w) (and-l (ltb v (256 ^ w)) (fit ws vs) e)
+fit-at (w ∷ ws) (v ∷ vs) (suc i) h k e = fit-at ws vs i (omega arith) (omega arith) (and-r (ltb v (256 ^ w)) (fit ws vs) e)
+
 -- ---- what was written is read
 
 -- what stands after the octets x

@@ -2,7 +2,7 @@
 use native.Mathlib.Omega.{arith}
 use denote.Ref.{now}
 use Rattle.writer.specs.Encode.{informationWidths}
-use Rattle.oam.proofs.LentNumbers.{fit-at}
+use Rattle.writer.proofs.Numbers.{fit-at}
 use borrow.Author.Needs.{needs}
 use Rattle.oam.proofs.lending.information_of.Statement.{statement}
 use Rattle.oam.proofs.lending.information_of.Tie as tie

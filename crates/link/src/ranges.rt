@@ -1,0 +1,80 @@
+// What every end keeps to that calls have made of a fresh one.
+ghost use mathlib.Core.Path.{_≡_};
+ghost use Rattle.link.specs.Ranges.{heldFits, lastFits, never, idle, blank, ranged};
+use crate::End;
+use crate::Last;
+use crate::Peer;
+use crate::sending::is_allowed;
+use crate::state::in_any;
+use end::Role;
+use frame::Held;
+
+// Only the OUI is narrower than its type.
+fn held_fits(held: Held) -> bool
+    ensures { λ r. ⌜ r ≡ heldFits held ⌝ }
+{
+    match held {
+        Held::Nothing => true,
+        Held::Is(i) => i.oui < 0x1000000,
+    }
+}
+
+// As its type has it.
+fn last_fits(last: Last) -> bool
+    ensures { λ r. ⌜ r ≡ lastFits last ⌝ }
+{
+    match last {
+        Last::Never => true,
+        Last::Number(n) => n <= 0xffff,
+    }
+}
+
+fn is_never(last: Last) -> bool
+    ensures { λ r. ⌜ r ≡ never last ⌝ }
+{
+    match last {
+        Last::Never => true,
+        Last::Number(_) => false,
+    }
+}
+
+fn is_idle(role: Role) -> bool
+    ensures { λ r. ⌜ r ≡ idle role ⌝ }
+{
+    match role {
+        Role::Idle => true,
+        Role::Asking => false,
+        Role::Holding => false,
+        Role::Ending => false,
+        Role::Looping => false,
+    }
+}
+
+fn is_blank(peer: Peer) -> bool
+    ensures { λ r. ⌜ r ≡ blank peer ⌝ }
+{
+    let held = peer.held;
+    let last = peer.last;
+    end::all_three(peer.kept == 0, !end::is_held(held), is_never(last))
+}
+
+// Whether an end keeps to its ranges. What its types alone keep to is not tested.
+pub(crate) fn is_ranged(e: End) -> bool
+    ensures { λ r. ⌜ r ≡ ranged e ⌝ }
+{
+    let peer = e.peer;
+    let held = peer.held;
+    let last = peer.last;
+    let role = e.role;
+    let owed = end::either(!e.own.owed, is_allowed(e));
+    let used = end::either(is_idle(role), in_any(e));
+    let cleared = end::either(e.link.up, is_blank(peer));
+    let standing = end::all_four(cleared, used, end::is_bounded(e.meter), owed);
+    let parts = end::all_three(held_fits(held), last_fits(last), standing);
+    end::all_four(
+        end::is_sound(e.settings),
+        e.link.lost < 50,
+        peer.kept <= 2,
+        parts,
+    )
+}
