@@ -33,12 +33,12 @@ four P a b c d (suc (suc (suc zero))) l h = c
 four P a b c d (suc (suc (suc (suc zero)))) l h = d
 four P a b c d (suc (suc (suc (suc (suc t))))) l h = absurd (omega arith)
 
--- a test that is computed of each row: no width is above 8
-abbrev narrow : List ℕ → Bool
+-- a test that is computed of each row, and of any table: no width is above 8
+abbrev pub narrow : List ℕ → Bool
 narrow [] = true
 narrow (w ∷ ws) = leb w 8 && narrow ws
 
-narrow-at : (ws : List ℕ) → narrow ws ≡ true → (k : ℕ) → getD ws k 0 ≤ 8
+pub narrow-at : (ws : List ℕ) → narrow ws ≡ true → (k : ℕ) → getD ws k 0 ≤ 8
 narrow-at [] e k = omega arith
 narrow-at (w ∷ ws) e zero = leb-true w 8 (and-eq-true-iff (leb w 8) (narrow ws) .0 e .0)
 narrow-at (w ∷ ws) e (suc k) = narrow-at ws (and-eq-true-iff (leb w 8) (narrow ws) .0 e .1) k

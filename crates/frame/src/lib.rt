@@ -21,6 +21,7 @@ pub use local_remote::information_step;
 pub use notifications::event_length;
 pub use notifications::event_step;
 pub use notifications::event_widths;
+pub use octets::number_at;
 pub use parts::body;
 pub use parts::events_body;
 pub use parts::organization_data;

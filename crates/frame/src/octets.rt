@@ -2,7 +2,7 @@
 ghost use mathlib.Core.Path.{_≡_};
 ghost use Prim.Native.Nat.{_+_, _^_, _≤_, _<_};
 ghost use lib.ListN.{length};
-ghost use Rattle.frame.specs.Octets.{num};
+ghost use Rattle.frame.specs.Octets.{num, numberAt};
 
 // The number in the width octets from octet at.
 pub(crate) fn number(s: &[u8], at: usize, width: usize) -> u64
@@ -16,4 +16,20 @@ pub(crate) fn number(s: &[u8], at: usize, width: usize) -> u64
         i += 1;
     }
     value
+}
+
+// The same for any octet and width: 0 where no number of at most eight octets stands.
+pub fn number_at(s: &[u8], at: usize, width: usize) -> u64
+    ensures { λ r. ⌜ r ≡ numberAt width (now (s .entry)) at ⌝ }
+{
+    if 8 < width {
+        return 0;
+    }
+    if s.len() < at {
+        return 0;
+    }
+    if s.len() - at < width {
+        return 0;
+    }
+    number(s, at, width)
 }

@@ -79,7 +79,7 @@ sound-is s h =
     )
 
 pub numbers-fit : (e : End) → ranged e ≡ true → fit numberWidths (numbersOf e) ≡ true
-unfolding ranged numbersOf bounded
+unfolding ranged numbersOf numberWidths bounded
 numbers-fit e h =
     let at : (n : ℕ) → _ = λ n. all-at (tests e) n h in
     let s = e .settings in
@@ -141,7 +141,7 @@ held-back Nothing i e = refl
 held-back (HeldIs j) i e = ap HeldIs e
 
 made-again : (e : End) → fit numberWidths (numbersOf e) ≡ true → endOf (numbersOf e) ≡ e
-unfolding numbersOf endOf
+unfolding numbersOf numberWidths endOf
 made-again e h =
     let at : (n : ℕ) → n < 27 → _ = λ n k. fit-at numberWidths (numbersOf e) n k k h in
     let r = told (e .peer .held) in

@@ -64,7 +64,7 @@ numbersOf e =
     ∷ []
 
 -- the octets that each of them takes
-abbrev pub numberWidths : List ℕ
+unfoldable pub numberWidths : List ℕ
 numberWidths = 1 ∷ 2 ∷ 3 ∷ 4 ∷ 6 ∷ 1 ∷ 1 ∷ 1 ∷ 1 ∷ 1 ∷ 1 ∷ 2 ∷ 1 ∷ 1 ∷ 2 ∷ 3 ∷ 4 ∷ 1 ∷ 2 ∷ 1 ∷ 1 ∷ 1 ∷ 2 ∷ 2 ∷ 1 ∷ 1 ∷ 1 ∷ []
 
 -- the parts of the end that some numbers make, each cut to its type's width

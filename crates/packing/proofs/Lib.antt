@@ -1,0 +1,3 @@
+-- What the proofs of several functions use, and what follows from the promises.
+mod Widths
+pub mod Packing

@@ -1,0 +1,2 @@
+-- What the promises of packing cite.
+pub mod Octets

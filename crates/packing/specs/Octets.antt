@@ -1,0 +1,23 @@
+-- An end in 48 octets: its numbers one after another, each in its own width.
+use Prim.Native.Nat.{ℕ}
+use mathlib.Core.List.{List}
+use mathlib.Core.Bool.{cond}
+use lib.Dec.{eqb}
+use lib.ListN.{length}
+use Rattle.frame.specs.Events.{fieldsAt}
+use Rattle.writer.specs.Octets.{octs}
+use Rattle.link.specs.declared.End.{End}
+use Rattle.link.specs.declared.FreshEnd.{FreshEnd}
+use Rattle.link.specs.declared.FreshEnd.the-variants.{Refused}
+use Rattle.link.specs.Numbers.{numbersOf, numberWidths, endFrom}
+
+unfoldable pub packed : End → List ℕ
+packed e = octs numberWidths (numbersOf e)
+
+-- an end stored in the octets of a state; in octets that are none nothing is stored
+unfoldable pub packedIn : End → List ℕ → List ℕ
+packedIn e state = cond (eqb (length state) 48) (packed e) state
+
+-- the end that is packed to some octets; 10 where there is none
+unfoldable pub unpacked : List ℕ → FreshEnd
+unpacked state = cond (eqb (length state) 48) (endFrom (fieldsAt numberWidths state 0)) (Refused 10)
