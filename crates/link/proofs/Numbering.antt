@@ -29,16 +29,12 @@ use Rattle.link.specs.declared.Last.the-variants.{Never, Number}
 use Rattle.link.specs.declared.End.{End}
 use Rattle.link.specs.declared.FreshEnd.{FreshEnd}
 use Rattle.link.specs.declared.FreshEnd.the-variants.{Refused, Is}
-use Rattle.link.specs.Ranges.{all, tests, heldFits, lastFits, ranged}
+use Rattle.link.specs.Ranges.{tests, heldFits, lastFits, ranged}
 use Rattle.link.specs.Numbers.{known, lastNumber, lastOf, numbersOf, numberWidths, informationFrom, endOf, same, endFrom}
+use Rattle.link.proofs.Ranging.{all-at}
 use Rattle.link.proofs.Sames.{same-refl, same-true}
 
 -- ---- the numbers of an end that keeps to its ranges fit their octets
-
-all-at : (bs : List Bool) (n : ℕ) → all bs ≡ true → getD bs n true ≡ true
-all-at [] n h = refl
-all-at (b ∷ bs) zero h = and-l b (all bs) h
-all-at (b ∷ bs) (suc n) h = all-at bs n (and-r b (all bs) h)
 
 bit-fits : (b : Bool) → ltb (bitOf b) (256 ^ 1) ≡ true
 bit-fits true = refl

@@ -1,16 +1,22 @@
--- Laws of the ranges: what the types of the fields alone keep to.
-use Prim.Native.Nat.{ℕ, _^_, _<_}
+-- Laws of the ranges: each of the tests, and what the types of the fields alone keep to.
+use Prim.Native.Nat.{ℕ, zero, suc, _^_, _<_}
 use mathlib.Core.Path.{_≡_, refl}
-use mathlib.Core.Bool.{Bool, true, false, _&&_}
+use mathlib.Core.List.{List, [], _∷_}
+use mathlib.Core.Bool.{Bool, true, and-true}
 use borrow.Author.Tests.{lt-ltb}
 use lib.Dec.{ltb}
+use lib.ListN.{getD}
 use Rattle.frame.specs.declared.Information.{Information}
 use Rattle.writer.specs.Octets.{fit}
 use Rattle.writer.specs.Encode.{informationWidths, informationValues}
+use Rattle.writer.proofs.Bools.{and-l, and-r}
+use Rattle.link.specs.Ranges.{all}
 
-pub and-true : (b : Bool) → (b && true) ≡ b
-and-true true = refl
-and-true false = refl
+-- one of the tests that all hold
+pub all-at : (bs : List Bool) (n : ℕ) → all bs ≡ true → getD bs n true ≡ true
+all-at [] n h = refl
+all-at (b ∷ bs) zero h = and-l b (all bs) h
+all-at (b ∷ bs) (suc n) h = all-at bs n (and-r b (all bs) h)
 
 -- of a record's fields only the OUI is narrower than its type
 pub only-oui : (i : Information)

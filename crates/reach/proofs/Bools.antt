@@ -1,11 +1,7 @@
--- Cases on a test, and lists of tests that all hold.
-use Prim.Native.Nat.{ℕ, zero, suc}
+-- Cases on a test.
 use mathlib.Core.Path.{_≡_, refl, subst}
-use mathlib.Core.List.{List, [], _∷_}
 use mathlib.Core.Bool.{Bool, true, false, not, _||_, true≢false}
-use lib.ListN.{getD}
-use Rattle.writer.proofs.Bools.{never, and-l, and-r}
-use Rattle.link.specs.Ranges.{all}
+use Rattle.writer.proofs.Bools.{never}
 
 -- no test both holds and fails
 pub not-both {κ} : {P : Type κ} {b : Bool} → b ≡ true → b ≡ false → P
@@ -42,10 +38,3 @@ implies false b h t = never t
 pub is-implied : (a b : Bool) → (a ≡ true → b ≡ true) → not a || b ≡ true
 is-implied true b h = h refl
 is-implied false b h = refl
-
--- ---- a list of tests that all hold
-
-pub all-at : (bs : List Bool) (n : ℕ) → all bs ≡ true → getD bs n true ≡ true
-all-at [] n h = refl
-all-at (b ∷ bs) zero h = and-l b (all bs) h
-all-at (b ∷ bs) (suc n) h = all-at bs n (and-r b (all bs) h)

@@ -1,8 +1,7 @@
 -- The parts of `ranged`, both ways, and that a fresh end has them.
 use Prim.Native.Nat.{ℕ, _^_, _<_, _≤_}
 use mathlib.Core.Path.{_≡_, refl}
-use mathlib.Core.List.{List, [], _∷_}
-use mathlib.Core.Bool.{Bool, true, false, not, _||_}
+use mathlib.Core.Bool.{true, false}
 use native.Mathlib.Omega.{arith}
 use borrow.Author.Tests.{ltb-true, leb-true, lt-ltb, le-leb}
 use lib.Dec.{ltb, leb}
@@ -17,8 +16,9 @@ use Rattle.link.specs.declared.End.{End}
 use Rattle.link.specs.declared.FreshEnd.the-variants.{Refused, Is}
 use Rattle.link.specs.State.{freshEnd, freshOf, inAny}
 use Rattle.link.specs.Sending.{allowed}
-use Rattle.link.specs.Ranges.{heldFits, lastFits, idle, blank, ranged}
-use Rattle.reach.proofs.Bools.{or-l, or-r, implies, is-or-l, is-or-r, is-implied, all-at}
+use Rattle.link.specs.Ranges.{tests, heldFits, lastFits, idle, blank, ranged}
+use Rattle.link.proofs.Ranging.{all-at}
+use Rattle.reach.proofs.Bools.{or-l, or-r, implies, is-or-l, is-or-r, is-implied}
 
 -- ---- the parts
 
@@ -77,22 +77,6 @@ pub record Ranged (e : End) : Type 0 where
   pub owes : Owes e
 
 -- ---- as tests
-
-abbrev tests : End → List Bool
-tests e =
-    sound (e .settings)
-    ∷ ltb (e .settings .vendor) (2 ^ 32)
-    ∷ ltb (e .link .lost) 50
-    ∷ leb (e .peer .kept) 2
-    ∷ heldFits (e .peer .held)
-    ∷ lastFits (e .peer .last)
-    ∷ (e .link .up || blank (e .peer))
-    ∷ (idle (e .role) || inAny e)
-    ∷ bounded (e .meter)
-    ∷ ltb (e .own .revision) (2 ^ 16)
-    ∷ ltb (e .own .number) (2 ^ 16)
-    ∷ (not (e .own .owed) || allowed e)
-    ∷ []
 
 bounded-is : (m : Meter) → bounded m ≡ true → Bounded m
 unfolding bounded

@@ -2,7 +2,7 @@ use Prim.Native.Nat.{_^_}
 use native.Mathlib.Omega.{arith}
 use borrow.Author.Tests.{lt-ltb}
 use Rattle.link.specs.Ranges.{ranged}
-use Rattle.link.proofs.Ranging.{and-true}
+use mathlib.Core.Bool.{and-true}
 use borrow.Author.Needs.{needs}
 use Rattle.link.proofs.ranges.is_ranged.Statement.{statement}
 use Rattle.link.proofs.ranges.is_ranged.Tie as tie
