@@ -1,5 +1,6 @@
 -- What the proofs of several functions use, and what follows from the promises.
 pub mod Written
+pub mod Stepped
 pub mod LentNumbers
 pub mod Lengths
 pub mod Moving

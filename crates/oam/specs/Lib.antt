@@ -6,3 +6,4 @@ pub mod Reading
 pub mod Parts
 pub mod Logging
 pub mod Taking
+pub mod Machine

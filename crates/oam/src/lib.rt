@@ -5,15 +5,27 @@
 // where it is accepted, and the length that was written above them, of which nothing is cut off (`proofs/Lengths.antt`). A
 // refusal leaves every lent slice as it was. Who takes the parts of a frame in order meets those of the message that it says
 // (`proofs/Taking.antt`).
+mod asking;
 mod lending;
 mod logging;
+mod machine;
 mod outcomes;
 mod parts;
 mod reading;
 mod writing;
 
+pub use asking::oam_notify;
+pub use asking::oam_organization;
+pub use asking::oam_request;
+pub use asking::oam_start;
+pub use asking::oam_stop;
 pub use logging::oam_log_read;
 pub use logging::oam_log_write;
+pub use machine::oam_fresh;
+pub use machine::oam_receive;
+pub use machine::oam_report;
+pub use machine::oam_show;
+pub use machine::oam_tick;
 pub use parts::oam_part;
 pub use reading::oam_read;
 pub use writing::oam_write_information;

@@ -8,7 +8,7 @@ use frame::Header;
 use frame::Reading;
 
 // The header and the body's fixed number.
-fn show_header(lent: &mut [u64], header: Header, number: u64) -> u64
+pub(crate) fn show_header(lent: &mut [u64], header: Header, number: u64) -> u64
     requires { ⌜ 4 ≤ length (now lent) ⌝ }
     ensures { λ r. ⌜ Showing (headerShown header number) (now (lent .entry)) r (now (lent .exit)) ⌝ }
 {

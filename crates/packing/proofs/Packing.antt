@@ -36,7 +36,7 @@ stored-whole state x h =
 
 -- ---- the two laws
 
-numbers-long : (e : End) → length (numbersOf e) ≡ 27
+pub numbers-long : (e : End) → length (numbersOf e) ≡ 27
 unfolding numbersOf
 numbers-long e = refl
 

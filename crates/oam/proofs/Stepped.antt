@@ -1,0 +1,63 @@
+-- What an entry that takes a call gives back: a number alone, or what the call comes to.
+use Prim.Native.Nat.{ℕ, _<_}
+use mathlib.Core.Path.{_≡_, refl, sym, ap, _∙_}
+use mathlib.Core.List.{List, [], _∷_, _++_}
+use native.Mathlib.Nat.{zero-add}
+use native.Mathlib.Omega.{arith}
+use lib.ListN.{length, set}
+use lib.Seq.{sets}
+use Rattle.writer.proofs.Stores.{sets-append}
+use Rattle.link.specs.declared.End.{End}
+use Rattle.link.specs.declared.FreshEnd.{FreshEnd}
+use Rattle.link.specs.declared.FreshEnd.the-variants.{Refused, Is}
+use Rattle.link.specs.declared.Shown.{Shown}
+use Rattle.link.specs.declared.Shown.the-variants.{Nothing, Frame, Events}
+use Rattle.link.specs.declared.Outcome.{Outcome}
+use Rattle.packing.specs.Octets.{packedIn}
+use Rattle.oam.specs.Outcomes.{Showing}
+use Rattle.oam.specs.Machine.{kindOf, steppedNumber, steppedState, Stepping, Freshly, heardShown, Receiving}
+
+pub kind-small : (shown : Shown) → kindOf shown < 4
+kind-small Nothing = omega arith
+kind-small (Frame h) = omega arith
+kind-small (Events h n) = omega arith
+
+module _ {call : End → Outcome} {output : End → List ℕ → List ℕ} (found : FreshEnd) (state out : List ℕ) where
+  pub refused : {n : ℕ} → found ≡ Refused n → Stepping call output found state out n state out
+  refused h = rw h (record { answers = refl; keeps = refl; writes = refl })
+
+  pub stepped : {e : End} {o : Outcome} {answer : ℕ} {state′ out′ : List ℕ} → found ≡ Is e
+      → (o ≡ call e) × (out′ ≡ output e out)
+      → (answer ≡ steppedNumber o) × (state′ ≡ steppedState o state)
+      → Stepping call output found state out answer state′ out′
+  stepped h p q =
+      rw h (record {
+        answers = q .0 ∙ ap steppedNumber (p .0);
+        keeps = q .1 ∙ ap (λ (x : Outcome). steppedState x state) (p .0);
+        writes = p .1;
+      })
+
+  pub heard : {e : End} {o : Outcome} {answer : ℕ} {header header′ state′ out′ : List ℕ} {shown : ℕ} → found ≡ Is e
+      → (o ≡ call e) × (out′ ≡ output e out)
+      → Showing (heardShown (o .shown)) header shown header′
+      → (answer ≡ steppedNumber o) × (state′ ≡ steppedState o state)
+      → Receiving call output found header state out answer header′ state′ out′
+  heard {header = header} h p s q =
+      record {
+        steps = stepped h p q;
+        hears = rw h (s .stored ∙ ap (λ (x : Outcome). sets header 0 (heardShown (x .shown) .numbers)) (p .0));
+      }
+
+  pub unheard : {n : ℕ} {header : List ℕ} → found ≡ Refused n → Receiving call output found header state out n header state out
+  unheard h = record { steps = refused h; hears = rw h }
+
+-- a fresh end is made, or none
+pub unmade : (made : FreshEnd) (state : List ℕ) {n : ℕ} → made ≡ Refused n → Freshly made state n state
+unmade made state h = rw h (record { answers = refl; keeps = refl })
+
+pub fresh-made : (made : FreshEnd) (state : List ℕ) {e : End} {state′ : List ℕ} → made ≡ Is e → state′ ≡ packedIn e state → Freshly made state 0 state′
+fresh-made made state h p = rw h (record { answers = refl; keeps = p })
+
+-- a number stored after 27
+pub one-more : (l xs : List ℕ) (y : ℕ) → length xs ≡ 27 → set (sets l 0 xs) 27 y ≡ sets l 0 (xs ++ (y ∷ []))
+one-more l xs y h = sym (sets-append l 0 xs (y ∷ []) ∙ ap (λ (n : ℕ). set (sets l 0 xs) n y) (zero-add (length xs) ∙ h))

@@ -1,0 +1,139 @@
+-- What the entries of the link machine promise. An end is kept in octets that the caller lends: an entry unpacks it, takes the
+-- call, and stores the end after it.
+use Prim.Native.Nat.{ℕ, _+_, _*_, _%_, _^_}
+use mathlib.Core.Path.{_≡_}
+use mathlib.Core.List.{List, [], _∷_, _++_}
+use mathlib.Core.Bool.{Bool, cond, true, false}
+use lib.Dec.{ltb, leb, eqb}
+use lib.ListN.{length}
+use lib.Seq.{sets}
+use Rattle.end.specs.Standing.{placeOf}
+use Rattle.end.specs.declared.Settings.{Settings}
+use Rattle.link.specs.declared.End.{End}
+use Rattle.link.specs.declared.FreshEnd.{FreshEnd}
+use Rattle.link.specs.declared.FreshEnd.the-variants.{Refused, Is}
+use Rattle.link.specs.declared.Report.{Report}
+use Rattle.link.specs.declared.Report.the-variants.{LinkUp, LinkDown, DyingGasp, CriticalEvent}
+use Rattle.link.specs.declared.Shown.{Shown as Heard}
+use Rattle.link.specs.declared.Shown.the-variants.{Nothing, Frame, Events}
+use Rattle.link.specs.declared.Outcome.{Outcome}
+use Rattle.link.specs.State.{freshOf, discoveryOf}
+use Rattle.link.specs.Requests.{Asked, requestOf, requestOutput}
+use Rattle.link.specs.Numbers.{numbersOf}
+use Rattle.packing.specs.Octets.{packedIn, unpacked}
+use Rattle.oam.specs.Outcomes.{Shown, shows, roomy}
+use Rattle.oam.specs.Reading.{headerShown}
+
+-- ---- what a call comes to
+
+-- what is shown: 0 nothing, 1 the frame, 2 new events
+abbrev pub kindOf : Heard → ℕ
+kindOf Nothing = 0
+kindOf (Frame h) = 1
+kindOf (Events h n) = 2
+
+-- bits 0 to 7 the answer, 8 to 39 the length written, 40 to 47 the State octet after the call, 48 and 49 what is shown
+unfoldable pub steppedNumber : Outcome → ℕ
+steppedNumber o = o .answer + o .length % 2 ^ 32 * 2 ^ 8 + o .state * 2 ^ 40 + kindOf (o .shown) * 2 ^ 48
+
+-- the state after a call: "A refusal changes nothing."
+unfoldable pub steppedState : Outcome → List ℕ → List ℕ
+steppedState o state = cond (eqb (o .answer) 0) (packedIn (o .end) state) state
+
+-- the same where no end may be there: the number of its refusal alone, and everything as it was
+abbrev pub answered : (End → Outcome) → FreshEnd → ℕ
+answered call (Refused n) = n
+answered call (Is e) = steppedNumber (call e)
+
+abbrev pub kept : (End → Outcome) → FreshEnd → List ℕ → List ℕ
+kept call (Refused n) state = state
+kept call (Is e) state = steppedState (call e) state
+
+abbrev pub wrote : (End → List ℕ → List ℕ) → FreshEnd → List ℕ → List ℕ
+wrote output (Refused n) out = out
+wrote output (Is e) out = output e out
+
+-- an entry that takes a call, by the end that it finds: its answer, the state and the output after it
+pub record Stepping (call : End → Outcome) (output : End → List ℕ → List ℕ) (found : FreshEnd) (state out : List ℕ) (answer : ℕ) (state′ out′ : List ℕ) : Type 0 where
+  pub answers : answer ≡ answered call found
+  pub keeps : state′ ≡ kept call found state
+  pub writes : out′ ≡ wrote output found out
+
+-- ---- a fresh end
+
+abbrev pub settingsOf : (configuration size oui vendor source required : ℕ) → Settings
+settingsOf configuration size oui vendor source required =
+    record { configuration = configuration; size = size; oui = oui; vendor = vendor; source = source; required = required }
+
+-- "settings or request values out of range" is 10, and so is a state that has not 48 octets
+unfoldable pub freshFor : Settings → List ℕ → FreshEnd
+freshFor s state = cond (eqb (length state) 48) (freshOf s) (Refused 10)
+
+abbrev pub freshAnswer : FreshEnd → ℕ
+freshAnswer (Refused n) = n
+freshAnswer (Is e) = 0
+
+abbrev pub freshState : FreshEnd → List ℕ → List ℕ
+freshState (Refused n) state = state
+freshState (Is e) state = packedIn e state
+
+-- the entry that makes a fresh end
+pub record Freshly (made : FreshEnd) (state : List ℕ) (answer : ℕ) (state′ : List ℕ) : Type 0 where
+  pub answers : answer ≡ freshAnswer made
+  pub keeps : state′ ≡ freshState made state
+
+-- ---- reports
+
+-- 0 link up, 1 link down, 2 and 3 dying gasp set and cleared, 4 and 5 critical event set and cleared
+abbrev pub reportFrom : ℕ → Report
+reportFrom n =
+    cond (eqb n 0) LinkUp
+    (cond (eqb n 1) LinkDown
+    (cond (eqb n 2) (DyingGasp true)
+    (cond (eqb n 3) (DyingGasp false)
+    (cond (eqb n 4) (CriticalEvent true) (CriticalEvent false)))))
+
+-- any other number is 10
+unfoldable pub foundFor : ℕ → List ℕ → FreshEnd
+foundFor report state = cond (leb report 5) (unpacked state) (Refused 10)
+
+-- ---- received frames
+
+-- of an accepted frame: its header, and the event number where the events are new, else 0
+abbrev pub heardShown : Heard → Shown
+heardShown Nothing = shows 0 []
+heardShown (Frame h) = headerShown h 0
+heardShown (Events h n) = headerShown h n
+
+-- a header that has some room: 9 where it is too short
+abbrev pub roomyEnd : ℕ → FreshEnd → FreshEnd
+roomyEnd room (Refused n) = Refused n
+roomyEnd room (Is e) = cond (ltb room 4) (Refused 9) (Is e)
+
+abbrev pub heardIn : (End → Outcome) → FreshEnd → List ℕ → List ℕ
+heardIn call (Refused n) header = header
+heardIn call (Is e) header = sets header 0 (heardShown (call e .shown) .numbers)
+
+-- the entry that receives: a call, and the header after it
+pub record Receiving (call : End → Outcome) (output : End → List ℕ → List ℕ) (found : FreshEnd) (header state out : List ℕ) (answer : ℕ) (header′ state′ out′ : List ℕ) : Type 0 where
+  pub steps : Stepping call output found state out answer state′ out′
+  pub hears : header′ ≡ heardIn call found header
+
+-- ---- requests
+
+-- a request by what it asks of an end
+abbrev pub asking : (End → Asked) → ℕ → End → Outcome
+asking asked lent e = requestOf (asked e) lent e
+
+abbrev pub askingOutput : (End → Asked) → End → List ℕ → List ℕ
+askingOutput asked e out = requestOutput (asked e) e out
+
+-- ---- what an end shows
+
+-- its 27 numbers, and where discovery stands
+unfoldable pub endNumbers : End → Shown
+endNumbers e = shows 0 (numbersOf e ++ (placeOf (discoveryOf e) ∷ []))
+
+abbrev pub endShown : FreshEnd → ℕ → Shown
+endShown (Refused n) room = shows n []
+endShown (Is e) room = roomy 28 9 room (endNumbers e)

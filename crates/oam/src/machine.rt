@@ -1,0 +1,190 @@
+// The entries that make an end, step it and show it. An end is kept in 48 octets that the caller lends: an entry unpacks it,
+// takes the call, and stores the end after it. Octets that no end is packed to are 10, and nothing is touched.
+ghost use mathlib.Core.Path.{_≡_};
+ghost use Prim.Native.Nat.{_≤_};
+ghost use lib.ListN.{length};
+ghost use Rattle.link.specs.Ticks.{tickOf, tickOutput};
+ghost use Rattle.link.specs.Reports.{reportOf, reportOutput};
+ghost use Rattle.link.specs.Hearing.{receiveOf, receiveOutput};
+ghost use Rattle.packing.specs.Octets.{unpacked};
+ghost use Rattle.oam.specs.Outcomes.{Showing};
+ghost use Rattle.oam.specs.Machine.{kindOf, steppedNumber, steppedState, Stepping, settingsOf, freshFor, Freshly, reportFrom, foundFor, heardShown, roomyEnd, Receiving, endNumbers, endShown};
+use crate::outcomes::show;
+use crate::reading::show_header;
+use end::Settings;
+use link::End;
+use link::FreshEnd;
+use link::Outcome;
+use link::Report;
+use link::Shown;
+
+fn kind(shown: Shown) -> u64
+    ensures { λ r. ⌜ r ≡ kindOf shown ⌝ }
+{
+    match shown {
+        Shown::Nothing => 0,
+        Shown::Frame(_) => 1,
+        Shown::Events(_, _) => 2,
+    }
+}
+
+// Bits 0 to 7 the answer, 8 to 39 the length written, 40 to 47 the State octet after the call, 48 and 49 what is shown.
+fn number(o: Outcome) -> u64
+    ensures { λ r. ⌜ r ≡ steppedNumber o ⌝ }
+{
+    let shown = o.shown;
+    (o.answer as u64)
+        + (o.length as u64) % 0x100000000 * 256
+        + (o.state as u64) * 0x10000000000
+        + kind(shown) * 0x1000000000000
+}
+
+// How every call ends: the end after it is stored, unless it was refused.
+pub(crate) fn conclude(o: Outcome, state: &mut [u8]) -> u64
+    ensures { λ r. ⌜ (r ≡ steppedNumber o) × (now (state .exit) ≡ steppedState o (now (state .entry))) ⌝ }
+{
+    let result = number(o);
+    if o.answer == 0 {
+        packing::pack(o.end, state);
+        return result;
+    }
+    result
+}
+
+// Makes a fresh end by its settings: 0, or 10 for settings out of range and for a state that has not 48 octets.
+#[no_mangle]
+pub extern "C" fn oam_fresh(
+    configuration: u8,
+    size: u16,
+    oui: u32,
+    vendor: u32,
+    source: u64,
+    required: u8,
+    state: &mut [u8],
+) -> u64
+    ensures { λ r. ⌜ Freshly (freshFor (settingsOf configuration size oui vendor source required) (now (state .entry))) (now (state .entry)) r (now (state .exit)) ⌝ }
+{
+    if state.len() != 48 {
+        return 10;
+    }
+    let settings = Settings {
+        configuration: configuration,
+        size: size,
+        oui: oui,
+        vendor: vendor,
+        source: source,
+        required: required,
+    };
+    match link::fresh(settings) {
+        FreshEnd::Refused(answer) => answer as u64,
+        FreshEnd::Is(e) => {
+            packing::pack(e, state);
+            0
+        }
+    }
+}
+
+// One tick of 100 ms.
+#[no_mangle]
+pub extern "C" fn oam_tick(state: &mut [u8], out: &mut [u8]) -> u64
+    ensures { λ r. ⌜ Stepping (tickOf (length (now (out .entry)))) tickOutput (unpacked (now (state .entry))) (now (state .entry)) (now (out .entry)) r (now (state .exit)) (now (out .exit)) ⌝ }
+{
+    match packing::unpack(state) {
+        FreshEnd::Refused(answer) => answer as u64,
+        FreshEnd::Is(e) => conclude(link::tick(e, out), state),
+    }
+}
+
+fn report_from(number: u8) -> Report
+    ensures { λ r. ⌜ r ≡ reportFrom number ⌝ }
+{
+    match number {
+        0 => Report::LinkUp,
+        1 => Report::LinkDown,
+        2 => Report::DyingGasp(true),
+        3 => Report::DyingGasp(false),
+        4 => Report::CriticalEvent(true),
+        _ => Report::CriticalEvent(false),
+    }
+}
+
+// One report: 0 link up, 1 link down, 2 and 3 dying gasp set and cleared, 4 and 5 critical event set and cleared; any other
+// number is 10.
+#[no_mangle]
+pub extern "C" fn oam_report(report: u8, state: &mut [u8], out: &mut [u8]) -> u64
+    ensures { λ r. ⌜ Stepping (reportOf (reportFrom report) (length (now (out .entry)))) (reportOutput (reportFrom report)) (foundFor report (now (state .entry))) (now (state .entry)) (now (out .entry)) r (now (state .exit)) (now (out .exit)) ⌝ }
+{
+    if 5 < report {
+        return 10;
+    }
+    match packing::unpack(state) {
+        FreshEnd::Refused(answer) => answer as u64,
+        FreshEnd::Is(e) => conclude(link::take_report(e, report_from(report), out), state),
+    }
+}
+
+// What is heard of an accepted frame, in a header of at least four numbers.
+fn show_heard(lent: &mut [u64], shown: Shown) -> u64
+    requires { ⌜ 4 ≤ length (now lent) ⌝ }
+    ensures { λ r. ⌜ Showing (heardShown shown) (now (lent .entry)) r (now (lent .exit)) ⌝ }
+{
+    match shown {
+        Shown::Nothing => 0,
+        Shown::Frame(header) => show_header(lent, header, 0),
+        Shown::Events(header, number) => show_header(lent, header, number as u64),
+    }
+}
+
+// One received frame. Of one that is accepted four numbers are stored in the header: source, flags, code, and the event
+// number where the events are new, else 0. A header shorter than that is 9.
+#[no_mangle]
+pub extern "C" fn oam_receive(
+    frame: &[u8],
+    header: &mut [u64],
+    state: &mut [u8],
+    out: &mut [u8],
+) -> u64
+    ensures { λ r. ⌜ Receiving (receiveOf (now (frame .entry)) (length (now (out .entry)))) (receiveOutput (now (frame .entry))) (roomyEnd (length (now (header .entry))) (unpacked (now (state .entry)))) (now (header .entry)) (now (state .entry)) (now (out .entry)) r (now (header .exit)) (now (state .exit)) (now (out .exit)) ⌝ }
+{
+    match packing::unpack(state) {
+        FreshEnd::Refused(answer) => answer as u64,
+        FreshEnd::Is(e) => {
+            if header.len() < 4 {
+                return 9;
+            }
+            let o = link::receive(e, frame, out);
+            let shown = o.shown;
+            show_heard(header, shown);
+            conclude(o, state)
+        }
+    }
+}
+
+// The 27 numbers of an end, and where discovery stands.
+fn show_end(lent: &mut [u64], e: End) -> u64
+    requires { ⌜ 28 ≤ length (now lent) ⌝ }
+    ensures { λ r. ⌜ Showing (endNumbers e) (now (lent .entry)) r (now (lent .exit)) ⌝ }
+{
+    let numbers = link::numbers_of(e);
+    let answer = show(lent, 0, &numbers);
+    lent[27] = link::discovery(e).number() as u64;
+    answer
+}
+
+// Shows an end: its 27 numbers in the order in which it is packed, and then where discovery stands: 0 FAULT, 1
+// ACTIVE_SEND_LOCAL, 2 PASSIVE_WAIT, 3 SEND_LOCAL_REMOTE, 4 SEND_LOCAL_REMOTE_OK, 5 SEND_ANY. Fewer than 28 numbers lent
+// is 9.
+#[no_mangle]
+pub extern "C" fn oam_show(state: &[u8], numbers: &mut [u64]) -> u64
+    ensures { λ r. ⌜ Showing (endShown (unpacked (now (state .entry))) (length (now (numbers .entry)))) (now (numbers .entry)) r (now (numbers .exit)) ⌝ }
+{
+    match packing::unpack(state) {
+        FreshEnd::Refused(answer) => answer as u64,
+        FreshEnd::Is(e) => {
+            if numbers.len() < 28 {
+                return 9;
+            }
+            show_end(numbers, e)
+        }
+    }
+}
