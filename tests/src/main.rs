@@ -7,16 +7,16 @@
 //! cargo run --release -- speed PROGRAM     how fast is it?
 //! ```
 //!
-//! Those that try the archive liboam.a are built with the feature `archive` (for the
-//! last two, `machine`), and OAM_ARCHIVE_DIR names its folder:
+//! Those that try the archive liboam.a are built with the feature `archive`, and
+//! OAM_ARCHIVE_DIR names its folder:
 //!
 //! ```text
 //! cargo run --release --features archive -- writers       does it write as the paper says?
 //! cargo run --release --features archive -- reading       does it read so?
 //! cargo run --release --features archive -- log           does it keep the log so?
 //! cargo run --release --features archive -- write-speed   how fast is it?
-//! cargo run --release --features machine -- machine       is its link machine the paper's?
-//! cargo run --release --features machine -- pair          do two of its ends keep the third demand?
+//! cargo run --release --features archive -- machine       is its link machine the paper's?
+//! cargo run --release --features archive -- pair          do two of its ends keep the third demand?
 //! ```
 
 mod commands;

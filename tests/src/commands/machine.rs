@@ -10,9 +10,9 @@ use oam_tests::trial::{self, Report};
 
 const CALLS: u64 = 1_000_000;
 
-#[cfg(feature = "machine")]
+#[cfg(feature = "archive")]
 const TRIED: (&str, &dyn Machine) = ("the archive's machine", &oam_tests::library::Archive);
-#[cfg(not(feature = "machine"))]
+#[cfg(not(feature = "archive"))]
 const TRIED: (&str, &dyn Machine) = (
     "the paper's own machine, not the archive's",
     &oam_tests::library::ByPaper,

@@ -101,7 +101,7 @@ const ALL: &[Command] = &[
 /// What a build without the archive says of the commands it lacks.
 const WITHOUT_ARCHIVE: &str = "
 writers, reading, log and write-speed need the feature archive;
-machine and pair try this package's own machine without the feature machine";
+machine and pair try this package's own machine without it";
 
 /// Runs the command that the arguments name.
 pub fn run(mut given: impl Iterator<Item = String>) -> Outcome {

@@ -2,7 +2,7 @@
 //! pointers and lengths. An end's state lives in octets that the caller lends;
 //! their layout is the library's own business.
 
-#[cfg(feature = "machine")]
+#[cfg(feature = "archive")]
 mod archive;
 mod by_paper;
 mod call;

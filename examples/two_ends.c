@@ -1,0 +1,185 @@
+/*
+ * Two ends of one link in one process. The office end is active and orders a loopback test, the box at
+ * the far end is passive and loops. Each calls the machine as firmware does. In the place of the fibre
+ * stands a queue for each direction, which carries one frame a tick. Printed is who sends what and where
+ * the ends stand. The program returns 1 where something does not go as it must.
+ */
+#include "oam.h"
+
+#include <inttypes.h>
+#include <stdio.h>
+#include <stdlib.h>
+#include <string.h>
+
+#define QUEUE 8
+#define MOST_TICKS 30
+#define STATE_AND_OUT(e) (e)->state, sizeof (e)->state, (e)->out, sizeof (e)->out
+
+static const char *const discoveries[] = {
+    "FAULT", "ACTIVE_SEND_LOCAL", "PASSIVE_WAIT", "SEND_LOCAL_REMOTE", "SEND_LOCAL_REMOTE_OK", "SEND_ANY"};
+static const char *const roles[] = {"Idle", "Asking", "Holding", "Ending", "Looping"};
+static const char *const actions[] = {"forwards", "loops", "discards"};
+
+struct frame {
+    uint8_t octets[OAM_LONGEST_FRAME];
+    size_t length;
+};
+
+struct end {
+    const char *name;
+    uint8_t state[OAM_STATE_OCTETS];
+    uint8_t out[OAM_LONGEST_FRAME];
+    uint8_t parser; /* what the MAC was last told */
+    bool multiplexer_discards;
+    struct frame queue[QUEUE]; /* on the way from this end */
+    size_t first, count;
+    size_t events_heard;
+};
+
+static void must(bool holds, const char *what)
+{
+    if (!holds) {
+        fprintf(stderr, "two_ends: this must hold and does not: %s\n", what);
+        exit(1);
+    }
+}
+
+static uint64_t number_of(const struct end *e, size_t which)
+{
+    uint64_t numbers[OAM_SHOWN_NUMBERS];
+    must(oam_show(e->state, sizeof e->state, numbers, OAM_SHOWN_NUMBERS) == OAM_ACCEPTED, "a state can be shown");
+    return numbers[which];
+}
+
+static void print_end(const struct end *e)
+{
+    printf("  %-6s %s, %s: parser %s, multiplexer %s\n", e->name, discoveries[number_of(e, OAM_NUMBER_DISCOVERY)],
+           roles[number_of(e, OAM_NUMBER_ROLE)], actions[e->parser], actions[e->multiplexer_discards ? 2 : 0]);
+}
+
+static void print_frame(const struct end *e, const struct frame *f)
+{
+    static const char *const codes[] = {"Information", "Event Notification", "", "", "Loopback Control"};
+    uint64_t h[OAM_HEADER_NUMBERS];
+    must(oam_read(f->octets, f->length, h, OAM_HEADER_NUMBERS) == OAM_ACCEPTED, "a written frame can be read");
+    must(h[OAM_HEADER_CODE] <= OAM_CODE_LOOPBACK_CONTROL, "nothing organization specific is sent");
+    printf("  %-6s sends %s", e->name, codes[h[OAM_HEADER_CODE]]);
+    if (h[OAM_HEADER_CODE] == OAM_CODE_LOOPBACK_CONTROL) {
+        printf(" (%s)", h[OAM_HEADER_NUMBER] == OAM_COMMAND_ENABLE ? "enable" : "disable");
+    }
+    printf(", flags %04" PRIx64 ", %zu octets\n", h[OAM_HEADER_FLAGS], f->length);
+}
+
+/* What firmware does with every outcome: first the MAC takes the actions, then the frame goes down. */
+static void finish(struct end *e, uint64_t outcome)
+{
+    must(oam_answer(outcome) == OAM_ACCEPTED, "every call is accepted");
+    e->parser = oam_parser_action(outcome);
+    e->multiplexer_discards = oam_multiplexer_discards(outcome);
+    if (oam_length(outcome) > 0) {
+        struct frame *f = &e->queue[(e->first + e->count) % QUEUE];
+        must(e->count < QUEUE, "the queue has room");
+        f->length = oam_length(outcome);
+        memcpy(f->octets, e->out, f->length);
+        e->count += 1;
+        print_frame(e, f);
+    }
+}
+
+static void print_events(struct end *e, const struct frame *f)
+{
+    uint64_t part[OAM_PART_NUMBERS] = {OAM_EVENTS_AT};
+    while (oam_part(f->octets, f->length, (size_t)part[0], part, OAM_PART_NUMBERS) == OAM_PART_EVENT) {
+        printf("  %-6s hears of an event of type %" PRIu64 " with %" PRIu64 " errors\n", e->name,
+               part[1 + OAM_EVENT_TYPE], part[1 + OAM_EVENT_ERRORS]);
+        e->events_heard += 1;
+    }
+}
+
+/* The first frame on its way from one end, if there is one, reaches the other. */
+static void carry(struct end *from, struct end *to)
+{
+    if (from->count > 0) {
+        const struct frame *f = &from->queue[from->first];
+        uint64_t header[OAM_HEADER_NUMBERS];
+        uint64_t outcome = oam_receive(f->octets, f->length, header, OAM_HEADER_NUMBERS, STATE_AND_OUT(to));
+        from->first = (from->first + 1) % QUEUE;
+        from->count -= 1;
+        finish(to, outcome);
+        if (oam_shown(outcome) == OAM_SHOWN_EVENTS) {
+            print_events(to, f);
+        }
+    }
+}
+
+static bool is(const struct end *e, uint64_t role)
+{
+    return number_of(e, OAM_NUMBER_DISCOVERY) == OAM_DISCOVERY_SEND_ANY && number_of(e, OAM_NUMBER_ROLE) == role;
+}
+
+/* Ticks, one at least, until both ends are in SEND_ANY with these roles. */
+static void tick_until(struct end *office, uint64_t office_role, struct end *box, uint64_t box_role)
+{
+    unsigned ticks = 0;
+    do {
+        must(ticks < MOST_TICKS, "the ends get there in thirty ticks");
+        ticks += 1;
+        finish(office, oam_tick(STATE_AND_OUT(office)));
+        finish(box, oam_tick(STATE_AND_OUT(box)));
+        carry(office, box);
+        carry(box, office);
+    } while (!is(office, office_role) || !is(box, box_role));
+    printf("after %u tick%s\n", ticks, ticks == 1 ? "" : "s");
+    print_end(office);
+    print_end(box);
+}
+
+/* Tells the peer of one event and prints its line of the sent-event log. */
+static void notify(struct end *e)
+{
+    const uint64_t event[OAM_EVENT_NUMBERS] = {OAM_TYPE_FRAME, 120, 10, 1, 3, 3, 1};
+    uint64_t number = number_of(e, OAM_NUMBER_NEXT_EVENT);
+    uint8_t line[OAM_LONGEST_LINE];
+    uint64_t outcome = oam_notify(event, OAM_EVENT_NUMBERS, STATE_AND_OUT(e));
+    finish(e, outcome);
+    outcome = oam_log_write(number, 1, event, OAM_EVENT_NUMBERS, line, sizeof line);
+    must(oam_answer(outcome) == OAM_ACCEPTED, "the log line is written");
+    printf("  %-6s logs %.*s", e->name, (int)oam_length(outcome), (const char *)line);
+}
+
+int main(void)
+{
+    static struct end office = {.name = "office"}, box = {.name = "box"};
+    const uint8_t both_can = OAM_CONFIGURATION_LOOPBACK | OAM_CONFIGURATION_LINK_EVENTS;
+    must(oam_fresh(both_can | OAM_CONFIGURATION_ACTIVE, 1518, 0x00CAFE, 1, 0x020000000001,
+                   OAM_CONFIGURATION_LOOPBACK, office.state, sizeof office.state) == OAM_ACCEPTED,
+         "the office's settings are in range");
+    must(oam_fresh(both_can, 1518, 0x00CAFE, 2, 0x020000000002, 0, box.state, sizeof box.state) == OAM_ACCEPTED,
+         "the box's settings are in range");
+
+    printf("the link comes up\n");
+    finish(&office, oam_report(OAM_REPORT_LINK_UP, STATE_AND_OUT(&office)));
+    finish(&box, oam_report(OAM_REPORT_LINK_UP, STATE_AND_OUT(&box)));
+    print_end(&office);
+    print_end(&box);
+    tick_until(&office, OAM_ROLE_IDLE, &box, OAM_ROLE_IDLE);
+
+    printf("the desk orders a loopback test\n");
+    finish(&office, oam_start(STATE_AND_OUT(&office)));
+    print_end(&office);
+    tick_until(&office, OAM_ROLE_HOLDING, &box, OAM_ROLE_LOOPING);
+    must(box.parser == OAM_PARSER_LOOPBACK && box.multiplexer_discards, "the box sends back what it receives");
+    must(office.parser == OAM_PARSER_DISCARD && !office.multiplexer_discards, "the office can send test frames");
+
+    printf("the desk ends the test\n");
+    finish(&office, oam_stop(STATE_AND_OUT(&office)));
+    print_end(&office);
+    tick_until(&office, OAM_ROLE_IDLE, &box, OAM_ROLE_IDLE);
+    must(box.parser == OAM_PARSER_FORWARD && !box.multiplexer_discards, "the box serves its subscriber again");
+
+    printf("the box notices bad frames\n");
+    notify(&box);
+    tick_until(&office, OAM_ROLE_IDLE, &box, OAM_ROLE_IDLE);
+    must(office.events_heard == 1, "the office hears of the event once");
+    return 0;
+}
