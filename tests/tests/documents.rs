@@ -1,5 +1,5 @@
-//! The documents against the repository: every link leads somewhere, every name stands in the file that is said to have it, and
-//! no public function has a condition on its caller.
+//! The documents against the repository: every link leads somewhere, every name stands in the file that is said to have it,
+//! every public function is among the promises, and none has a condition on its caller.
 
 use std::fs;
 use std::path::{Path, PathBuf};
@@ -58,7 +58,10 @@ fn names_before(before: &str) -> Vec<&str> {
         let Some(start) = inner.rfind('`') else { break };
         names.push(&inner[start + 1..]);
         rest = &inner[..start];
-        rest = rest.strip_suffix(" and ").or(rest.strip_suffix(", ")).unwrap_or("");
+        rest = rest
+            .strip_suffix(" and ")
+            .or(rest.strip_suffix(", "))
+            .unwrap_or("");
     }
     names
 }
@@ -77,7 +80,11 @@ fn every_link_leads_to_what_it_says() {
             assert!(path.exists(), "{}: no {target}", document.display());
             for name in names_before(before) {
                 let has = text(&path).contains(name) || target.contains(name);
-                assert!(has, "{}: `{name}` does not stand in {target}", document.display());
+                assert!(
+                    has,
+                    "{}: `{name}` does not stand in {target}",
+                    document.display()
+                );
                 checked += 1;
             }
         }
@@ -85,24 +92,72 @@ fn every_link_leads_to_what_it_says() {
     assert!(checked > 30, "only {checked} names were found to look for");
 }
 
-#[test]
-fn no_public_function_has_a_condition() {
-    let mut public = 0;
-    for source in files(&repository().join("crates"), "rt") {
-        let written = text(&source);
-        let mut lines = written.lines();
-        while let Some(line) = lines.next() {
-            let item = line.trim_start();
-            if !(item.starts_with("pub fn ") || item.starts_with("pub extern ")) {
-                continue;
-            }
-            public += 1;
-            let clauses: Vec<&str> = lines.by_ref().take_while(|l| l.trim() != "{").collect();
-            let silent = !clauses.iter().any(|l| l.trim_start().starts_with("ensures"));
-            let condition = clauses.iter().any(|l| l.trim_start().starts_with("requires"));
-            assert!(!condition, "{}: a condition on {item}", source.display());
-            assert!(!silent, "{}: {item} promises nothing", source.display());
+/// A public function: its name, and the lines of its contract.
+struct Public {
+    name: String,
+    contract: Vec<String>,
+}
+
+/// The public functions of a source text.
+fn public_functions(written: &str) -> Vec<Public> {
+    let mut found = Vec::new();
+    let mut lines = written.lines();
+    while let Some(line) = lines.next() {
+        let item = line.trim_start();
+        let after = item
+            .strip_prefix("pub extern \"C\" fn ")
+            .or(item.strip_prefix("pub fn "));
+        if let Some(after) = after {
+            let name = after.split('(').next().unwrap_or(after).to_string();
+            let contract = lines.by_ref().take_while(|l| l.trim() != "{");
+            let contract = contract.map(|l| l.trim_start().to_string()).collect();
+            found.push(Public { name, contract });
         }
     }
-    assert!(public > 80, "only {public} public functions were found");
+    found
+}
+
+fn all_public_functions() -> Vec<Public> {
+    let sources = files(&repository().join("crates"), "rt");
+    let found: Vec<Public> = sources
+        .iter()
+        .flat_map(|s| public_functions(&text(s)))
+        .collect();
+    assert!(
+        found.len() > 100,
+        "only {} public functions were found",
+        found.len()
+    );
+    found
+}
+
+#[test]
+fn no_public_function_has_a_condition() {
+    for Public { name, contract } in all_public_functions() {
+        let has = |clause: &str| contract.iter().any(|l| l.starts_with(clause));
+        assert!(!has("requires"), "{name} has a condition on its caller");
+        assert!(has("ensures"), "{name} promises nothing");
+    }
+}
+
+#[test]
+fn every_public_function_is_among_the_promises() {
+    let promises = text(&repository().join("docs/PROMISES.md"));
+    let is_named = |name: &str| {
+        let named = |mark: &str| promises.contains(&format!("{name}{mark}"));
+        named("`") || named("(")
+    };
+    for Public { name, .. } in all_public_functions() {
+        assert!(is_named(&name), "{name} is not in docs/PROMISES.md");
+    }
+}
+
+#[test]
+fn a_condition_and_a_silence_are_seen() {
+    let source = "pub fn a(n: u8)\n    requires { x }\n{\n}\nfn b() {\n}\npub extern \"C\" fn c(\n    n: u8,\n)\n    ensures { y }\n{\n}\n";
+    let found = public_functions(source);
+    let names: Vec<&str> = found.iter().map(|p| p.name.as_str()).collect();
+    assert_eq!(names, ["a", "c"]);
+    assert_eq!(found[0].contract, ["requires { x }"]);
+    assert!(found[1].contract.contains(&"ensures { y }".to_string()));
 }
