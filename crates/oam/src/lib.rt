@@ -1,10 +1,13 @@
-// The link end's entries for C and Rust: frames written and read, and the lines of the sent-event log.
+// The link end's entries for C and Rust: frames written and read, the lines of the sent-event log, and the link machine.
 //
 // An entry takes numbers and lent slices and trusts none of them. A slice is two arguments to its caller, where it begins and
 // how many elements it has. An entry that writes answers an outcome: one number, the paper's answer in its low 8 bits, 0
 // where it is accepted, and the length that was written above them, of which nothing is cut off (`proofs/Lengths.antt`). A
 // refusal leaves every lent slice as it was. Who takes the parts of a frame in order meets those of the message that it says
 // (`proofs/Taking.antt`).
+//
+// An end of the link is kept in 48 octets that the caller lends to each call (the crate `packing`). The outcome of a call has
+// the State octet after it in bits 40 to 47, and what is shown in bits 48 and 49.
 mod asking;
 mod lending;
 mod logging;

@@ -48,15 +48,31 @@ unpacked-packed e h =
     fields-read numberWidths (numbersOf e) octets 0 [] (widths-long ∙ sym (numbers-long e)) (numbers-fit e h) (sym (append-nil octets)) in
     rw (eq-eqb (length octets) 48 (packed-long e), back) (numbers-back e h)
 
-pub packed-unpacked : (state : List ℕ) (e : End) → Octets state → unpacked state ≡ Is e → packed e ≡ state
-unfolding packed unpacked
-packed-unpacked state e o h =
-    by-cond (λ (f : FreshEnd). f ≡ Is e → packed e ≡ state) (eqb (length state) 48)
-    (λ t k.
-    let long = eqb-true (length state) 48 t in
-    let again = fields-again state o numberWidths 0 (omega (arith, long, widths-total)) in
-    let none : length state ≤ 0 + total numberWidths = omega (arith, long, widths-total) in
-    rw (numbers-only (fieldsAt numberWidths state 0) e k .1)
-    (sym (again ∙ rw (drop-of-length-le state none) (append-nil (octs numberWidths (fieldsAt numberWidths state 0))))))
+-- octets that are unpacked are 48, and hold the numbers of the end
+unpacked-is : (state : List ℕ) (e : End) → unpacked state ≡ Is e → (length state ≡ 48) × (endFrom (fieldsAt numberWidths state 0) ≡ Is e)
+unfolding unpacked
+unpacked-is state e h =
+    by-cond (λ (f : FreshEnd). f ≡ Is e → (length state ≡ 48) × (endFrom (fieldsAt numberWidths state 0) ≡ Is e)) (eqb (length state) 48)
+    (λ t k. (eqb-true (length state) 48 t, k))
     (λ _ k. let z : _≡_ {A = ℕ} 0 1 = cc in absurd (omega arith))
     h
+
+pub packed-unpacked : (state : List ℕ) (e : End) → Octets state → unpacked state ≡ Is e → packed e ≡ state
+unfolding packed
+packed-unpacked state e o h =
+    let u = unpacked-is state e h in
+    let numbers = fieldsAt numberWidths state 0 in
+    let again = fields-again state o numberWidths 0 (omega (arith, u .0, widths-total)) in
+    let none : length state ≤ 0 + total numberWidths = omega (arith, u .0, widths-total) in
+    rw (numbers-only numbers e (u .1) .1) (sym (again ∙ rw (drop-of-length-le state none) (append-nil (octs numberWidths numbers))))
+
+-- ---- from call to call
+
+-- an end that is unpacked keeps to its ranges
+pub unpacked-ranged : (state : List ℕ) (e : End) → unpacked state ≡ Is e → ranged e ≡ true
+unpacked-ranged state e h = numbers-only (fieldsAt numberWidths state 0) e (unpacked-is state e h .1) .0
+
+-- and one that does so, stored in the place of another, is unpacked again
+pub stored-unpacked : (state : List ℕ) (before e : End) → unpacked state ≡ Is before → ranged e ≡ true → unpacked (packedIn e state) ≡ Is e
+unfolding packedIn
+stored-unpacked state before e h r = rw (eq-eqb (length state) 48 (unpacked-is state before h .0)) (unpacked-packed e r)
