@@ -48,11 +48,12 @@ fn numbers_in(state: &[u8]) -> [u64; 27]
     requires { ⌜ 48 ≤ length (now state) ⌝ }
     ensures { λ r. ⌜ r ≡ fieldsAt numberWidths (now (state .entry)) 0 ⌝ }
 {
+    let widths = WIDTHS;
     let mut numbers = [0u64; 27];
     let mut position: usize = 0;
     let mut i: usize = 0;
     while i < 27 {
-        let width = WIDTHS[i];
+        let width = widths[i];
         numbers[i] = frame::number_at(state, position, width);
         position += width;
         i += 1;
@@ -64,10 +65,11 @@ fn put_numbers(numbers: [u64; 27], state: &mut [u8])
     requires { ⌜ 48 ≤ length (now state) ⌝ }
     ensures { λ _. ⌜ now (state .exit) ≡ sets (now (state .entry)) 0 (octs numberWidths numbers) ⌝ }
 {
+    let widths = WIDTHS;
     let mut position: usize = 0;
     let mut i: usize = 0;
     while i < 27 {
-        let width = WIDTHS[i];
+        let width = widths[i];
         writer::put_number_at(state, position, width, numbers[i]);
         position += width;
         i += 1;

@@ -17,14 +17,14 @@ use Rattle.packing.proofs.numbers_in.Statement.{statement}
 use Rattle.packing.proofs.numbers_in.Tie as tie
 
 abbrev Inv-loop : tie.InvT-loop
-Inv-loop state numbers₀ position₀ i₀ numbers position i =
+Inv-loop state widths numbers₀ position₀ i₀ numbers position i =
     (i ≤ 27)
     × (length numbers ≡ 27)
     × (position + total (drop i numberWidths) ≡ 48)
     × (fieldsAt numberWidths state 0 ≡ take i numbers ++ fieldsAt (drop i numberWidths) state position)
 
 abbrev μ-loop : tie.MeasureT-loop
-μ-loop state numbers₀ position₀ i₀ numbers position i = 27 - i
+μ-loop state widths numbers₀ position₀ i₀ numbers position i = 27 - i
 
 loop-holds : tie.Need-loop-holds Inv-loop μ-loop
 loop-holds c = (omega arith, refl, omega (arith, widths-total), refl)

@@ -17,14 +17,14 @@ use Rattle.packing.proofs.put_numbers.Statement.{statement}
 use Rattle.packing.proofs.put_numbers.Tie as tie
 
 abbrev Inv-loop : tie.InvT-loop
-Inv-loop state₀ numbers position₀ i₀ state position i =
+Inv-loop state₀ numbers widths position₀ i₀ state position i =
     (i ≤ 27)
     × (length state ≡ length state₀)
     × (position + total (drop i numberWidths) ≡ 48)
     × (sets state₀ 0 (octs numberWidths numbers) ≡ sets state position (octs (drop i numberWidths) (drop i numbers)))
 
 abbrev μ-loop : tie.MeasureT-loop
-μ-loop state₀ numbers position₀ i₀ state position i = 27 - i
+μ-loop state₀ numbers widths position₀ i₀ state position i = 27 - i
 
 loop-holds : tie.Need-loop-holds Inv-loop μ-loop
 loop-holds c = (omega arith, refl, omega (arith, widths-total), refl)
