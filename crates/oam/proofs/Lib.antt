@@ -5,3 +5,4 @@ pub mod LentNumbers
 pub mod Lengths
 pub mod Moving
 pub mod Taking
+pub mod Again
