@@ -7,6 +7,7 @@
 pub mod compare;
 pub mod generate;
 pub mod library;
+pub mod measure;
 pub mod paper;
 pub mod random;
 pub mod streaming;

@@ -14,7 +14,7 @@
 //! cargo run --release --features archive -- writers       does it write as the paper says?
 //! cargo run --release --features archive -- reading       does it read so?
 //! cargo run --release --features archive -- log           does it keep the log so?
-//! cargo run --release --features archive -- write-speed   how fast is it?
+//! cargo run --release --features archive -- figures       how fast, how deep and how large is it?
 //! cargo run --release --features archive -- machine       is its link machine the paper's?
 //! cargo run --release --features archive -- pair          do two of its ends keep the third demand?
 //! ```

@@ -3,13 +3,13 @@
 #[cfg(feature = "archive")]
 mod archive;
 mod arguments;
+#[cfg(feature = "archive")]
+mod figures;
 mod list;
 mod lister;
 mod machine;
 mod process;
 mod speed;
-#[cfg(feature = "archive")]
-mod write_speed;
 
 use arguments::Arguments;
 use oam_tests::trial::Report;
@@ -90,17 +90,26 @@ const ALL: &[Command] = &[
     },
     #[cfg(feature = "archive")]
     Command {
-        name: "write-speed",
-        form: "[--runs N]",
-        purpose: "compare the archive's speed with that of hand-written functions",
+        name: "figures",
+        form: "[LISTER [WORD ...]] [--runs N]",
+        purpose:
+            "print the tables of docs/PERFORMANCE.md: the archive beside hand-written functions",
         options: &["--runs"],
-        run: write_speed::run,
+        run: figures::run,
+    },
+    #[cfg(feature = "archive")]
+    Command {
+        name: "counted",
+        form: "",
+        purpose: "make each call of figures once, for callgrind to count; figures runs it",
+        options: &[],
+        run: figures::counted,
     },
 ];
 
 /// What a build without the archive says of the commands it lacks.
 const WITHOUT_ARCHIVE: &str = "
-writers, reading, log and write-speed need the feature archive;
+writers, reading, log and figures need the feature archive;
 machine and pair try this package's own machine without it";
 
 /// Runs the command that the arguments name.

@@ -13,26 +13,57 @@ use std::time::Duration;
 const MEGABYTES: u64 = 120;
 const RUNS: u64 = 5;
 
+/// How much is listed, and how often.
+pub struct Extent {
+    pub seed: u64,
+    pub megabytes: u64,
+    pub runs: u64,
+}
+
+impl Extent {
+    pub fn with_seed(seed: u64) -> Self {
+        Extent {
+            seed,
+            megabytes: MEGABYTES,
+            runs: RUNS,
+        }
+    }
+}
+
 pub fn run(arguments: &Arguments) -> Outcome {
     let program = arguments.program()?;
-    let own = Program::new(std::env::current_exe()?, &[String::from("list")]);
     let seed = arguments.number("--seed").unwrap_or_else(seed_from_clock);
-    let megabytes = arguments.number("--megabytes").unwrap_or(MEGABYTES) as usize;
-    let runs = arguments.number("--runs").unwrap_or(RUNS).max(1);
-    println!("seed {seed}");
-    let input = traffic(&mut Random::new(seed), megabytes * 1_000_000);
+    let usual = Extent::with_seed(seed);
+    let extent = Extent {
+        seed,
+        megabytes: arguments.number("--megabytes").unwrap_or(usual.megabytes),
+        runs: arguments.number("--runs").unwrap_or(usual.runs).max(1),
+    };
+    compare(&program, &extent)
+}
+
+/// Prints both speeds as a table.
+pub fn compare(program: &Program, extent: &Extent) -> Outcome {
+    let own = Program::new(std::env::current_exe()?, &[String::from("list")]);
+    println!("Seed {}:", extent.seed);
+    let input = traffic(
+        &mut Random::new(extent.seed),
+        extent.megabytes as usize * 1_000_000,
+    );
     let file = TemporaryFile::holding("traffic", &input)?;
-    same_output(&program, &own, file.path())?;
+    same_output(program, &own, file.path())?;
 
     let (mut times, mut own_times) = (Vec::new(), Vec::new());
-    for _ in 0..runs {
+    for _ in 0..extent.runs {
         times.push(program.time(file.path())?);
         own_times.push(own.time(file.path())?);
     }
-    let middle = report("program", &mut times, input.len());
+    let runs = extent.runs;
+    println!("\n| Lister, MB/s | Middle of {runs} runs | Best | Worst |\n|---|---|---|---|");
+    let middle = report("the program", &mut times, input.len());
     let own_middle = report("hand-written", &mut own_times, input.len());
     let ratio = middle.as_secs_f64() / own_middle.as_secs_f64();
-    println!("the program takes {ratio:.2} times as long, middle run to middle run");
+    println!("\nThe program takes {ratio:.2} times as long, middle run to middle run.");
     Ok(())
 }
 
@@ -48,10 +79,10 @@ fn traffic(random: &mut Random, least: usize) -> Vec<u8> {
         input.extend_from_slice(&line);
         input.push(b'\n');
     }
-    println!("{} octets, of them", grouped(input.len()));
+    println!("{} octets, of them\n", grouped(input.len()));
     for (kind, (lines, octets)) in TRAFFIC.iter().zip(counts) {
         let (octets, lines) = (grouped(octets), grouped(lines));
-        println!("  {octets:>11} in {lines:>9} lines of {}", kind.name);
+        println!("    {octets:>11} in {lines:>9} lines of {}", kind.name);
     }
     input
 }
@@ -73,12 +104,7 @@ fn report(name: &str, times: &mut [Duration], octets: usize) -> Duration {
     times.sort();
     let middle = times[times.len() / 2];
     let speed = |time: Duration| octets as f64 / 1e6 / time.as_secs_f64();
-    println!(
-        "{name:>12}: {:.1} MB/s in the middle of {} runs (best {:.1}, worst {:.1})",
-        speed(middle),
-        times.len(),
-        speed(times[0]),
-        speed(times[times.len() - 1]),
-    );
+    let [middle_speed, best, worst] = [middle, times[0], times[times.len() - 1]].map(speed);
+    println!("| {name} | {middle_speed:.0} | {best:.0} | {worst:.0} |");
     middle
 }

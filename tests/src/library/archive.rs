@@ -80,8 +80,12 @@ extern "C" {
 // SAFETY, of every call below: each pointer comes from a slice that lives through
 // the call, with that slice's own length behind it, and what is written to is
 // lent to this call alone.
+//
+// They are inlined, so that nothing of this package stands between a measured call
+// and the entry.
 
 impl Library for Archive {
+    #[inline(always)]
     fn write(&self, draft: &Draft, out: &mut [u8]) -> u64 {
         let (source, flags) = (draft.source, draft.flags);
         let (out, out_len) = (out.as_mut_ptr(), out.len());
@@ -116,22 +120,26 @@ impl Library for Archive {
         }
     }
 
+    #[inline(always)]
     fn log_write(&self, number: u64, position: u64, event: &[u64], out: &mut [u8]) -> u64 {
         let (event, event_len) = (event.as_ptr(), event.len());
         let (out, out_len) = (out.as_mut_ptr(), out.len());
         unsafe { oam_log_write(number, position, event, event_len, out, out_len) }
     }
 
+    #[inline(always)]
     fn log_read(&self, text: &[u8], values: &mut [u64]) -> u64 {
         let (values, values_len) = (values.as_mut_ptr(), values.len());
         unsafe { oam_log_read(text.as_ptr(), text.len(), values, values_len) }
     }
 
+    #[inline(always)]
     fn read(&self, frame: &[u8], header: &mut [u64]) -> u64 {
         let (header, header_len) = (header.as_mut_ptr(), header.len());
         unsafe { oam_read(frame.as_ptr(), frame.len(), header, header_len) }
     }
 
+    #[inline(always)]
     fn part(&self, frame: &[u8], at: usize, part: &mut [u64]) -> u64 {
         let (part, part_len) = (part.as_mut_ptr(), part.len());
         unsafe { oam_part(frame.as_ptr(), frame.len(), at, part, part_len) }

@@ -76,8 +76,12 @@ extern "C" {
 // SAFETY, of every call below: each pointer comes from a slice that lives through
 // the call, with that slice's own length behind it, and what is written to is
 // lent to this call alone.
+//
+// They are inlined, so that nothing of this package stands between a measured call
+// and the entry.
 
 impl Machine for Archive {
+    #[inline(always)]
     fn fresh(&self, settings: &Settings, state: &mut [u8]) -> u64 {
         let Settings {
             configuration,
@@ -102,6 +106,7 @@ impl Machine for Archive {
         }
     }
 
+    #[inline(always)]
     fn call(&self, call: &Call, header: &mut [u64], state: &mut [u8], out: &mut [u8]) -> u64 {
         let (state, length) = (state.as_mut_ptr(), state.len());
         let (out, room) = (out.as_mut_ptr(), out.len());
@@ -129,6 +134,7 @@ impl Machine for Archive {
         }
     }
 
+    #[inline(always)]
     fn show(&self, state: &[u8], numbers: &mut [u64]) -> u64 {
         let (numbers, count) = (numbers.as_mut_ptr(), numbers.len());
         unsafe { oam_show(state.as_ptr(), state.len(), numbers, count) }

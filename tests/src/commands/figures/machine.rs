@@ -1,0 +1,167 @@
+//! The archive's link machine beside the paper's, each call from the same end
+//! every time.
+
+use super::frames::{frame, EVENTS};
+use super::meter::Meter;
+use crate::commands::Outcome;
+use oam_tests::library::machine::{packed, unpacked, Call, Machine, RECEIVED, STATE_OCTETS};
+use oam_tests::library::{Archive, ByPaper};
+use oam_tests::paper::machine::{Discovery, End, Report, Role, Settings, END_NUMBERS, SECOND};
+use oam_tests::paper::{answer, code, BODY, LONGEST};
+use std::hint::black_box;
+
+/// A passive end with loopback, events and retrieval; its peer is active.
+const SETTINGS: Settings = Settings {
+    configuration: 0x1C,
+    size: 1518,
+    oui: 0x00_1B21,
+    vendor: 0xDEAD_BEEF,
+    source: 0x0200_0000_0002,
+    required: 0,
+};
+
+pub fn measure(meter: &mut impl Meter) -> Outcome {
+    let any = Stand::in_send_any()?;
+    let last = any.after(&vec![Call::Tick; usize::from(SECOND) - 1])?;
+    let information = Call::Receive(frame(code::INFORMATION)?);
+    let notification = Call::Receive(frame(code::NOTIFICATION)?);
+    let enable = Call::Receive(frame(code::LOOPBACK)?);
+    let broken = Call::Receive(broken()?);
+    let notify = Call::Notify(EVENTS.concat());
+    any.measure(meter, "tick that writes nothing", &Call::Tick, (0, 0))?;
+    last.measure(
+        meter,
+        "tick that closes a second and writes",
+        &Call::Tick,
+        (0, 60),
+    )?;
+    any.measure(
+        meter,
+        "receive Information, nothing owed",
+        &information,
+        (0, 0),
+    )?;
+    any.measure(
+        meter,
+        "receive Notification, four new events",
+        &notification,
+        (0, 0),
+    )?;
+    any.measure(
+        meter,
+        "receive Loopback enable, obey and write",
+        &enable,
+        (0, 60),
+    )?;
+    any.measure(
+        meter,
+        "receive a broken frame, answer 6",
+        &broken,
+        (answer::BROKEN, 0),
+    )?;
+    any.measure(meter, "notify of four events, granted", &notify, (0, 132))?;
+    any.measure_show(meter);
+    Ok(())
+}
+
+/// Information whose second TLV has no room for its fields.
+fn broken() -> Result<Vec<u8>, String> {
+    let mut frame = frame(code::INFORMATION)?;
+    frame[BODY + 17] = 1; // the length of the second TLV
+    Ok(frame)
+}
+
+/// The same end in the archive's octets and by the paper.
+#[derive(Clone)]
+pub struct Stand {
+    pub state: [u8; STATE_OCTETS],
+    end: End,
+}
+
+impl Stand {
+    fn fresh() -> Result<Self, String> {
+        let mut state = [0; STATE_OCTETS];
+        let end = End::fresh(&SETTINGS).map_err(|answer| format!("fresh: {answer}"))?;
+        match Archive.fresh(&SETTINGS, &mut state) {
+            0 => Ok(Stand { state, end }),
+            outcome => Err(format!("oam_fresh answers {outcome}")),
+        }
+    }
+
+    /// An end in SEND_ANY that owes nothing, its peer as the measured frames say.
+    pub fn in_send_any() -> Result<Self, String> {
+        let up = Call::Report(Report::LinkUp as u8);
+        let peer = Call::Receive(frame(code::INFORMATION)?);
+        let stand = Stand::fresh()?.after(&[up, peer])?;
+        let end = &stand.end;
+        match end.discovery == Discovery::SendAny && end.role == Role::Idle && !end.owed {
+            true => Ok(stand),
+            false => Err(format!("the end is not in SEND_ANY: {end:?}")),
+        }
+    }
+
+    /// The end behind these calls.
+    fn after(&self, calls: &[Call]) -> Result<Self, String> {
+        let mut stand = self.clone();
+        for call in calls {
+            stand.step(call)?;
+        }
+        Ok(stand)
+    }
+
+    /// Makes a call on both sides, and gives its outcome.
+    fn step(&mut self, call: &Call) -> Result<u64, String> {
+        let (mut header, mut own_header) = ([0; RECEIVED], [0; RECEIVED]);
+        let (mut out, mut own_out) = ([0; LONGEST], [0; LONGEST]);
+        let mut own_state = packed(&self.end);
+        let outcome = Archive.call(call, &mut header, &mut self.state, &mut out);
+        let expected = ByPaper.call(call, &mut own_header, &mut own_state, &mut own_out);
+        self.end = unpacked(&own_state).ok_or("the paper's machine left no state")?;
+        let same = outcome == expected && header == own_header && out == own_out;
+        match same && self.numbers() == self.end.numbers() {
+            true => Ok(outcome),
+            false => Err(format!("{call} differs; see the command machine")),
+        }
+    }
+
+    fn numbers(&self) -> [u64; END_NUMBERS] {
+        let mut numbers = [0; END_NUMBERS];
+        Archive.show(&self.state, &mut numbers);
+        numbers
+    }
+
+    /// Measures a call that gives this answer and length. The archive's state is
+    /// put back before each call; the paper's machine leaves its own as it was.
+    fn measure(
+        &self,
+        meter: &mut impl Meter,
+        what: &str,
+        call: &Call,
+        (answer, length): (u8, u64),
+    ) -> Outcome {
+        let outcome = self.clone().step(call)?;
+        if outcome & 0xFF_FFFF_FFFF != length << 8 | u64::from(answer) {
+            return Err(format!("{what}: the outcome is {outcome:x}").into());
+        }
+        let (mut header, mut state) = ([0; RECEIVED], self.state);
+        let (mut out, mut own_out) = ([0; LONGEST], [0; LONGEST]);
+        meter.row(
+            what,
+            || {
+                state = self.state;
+                Archive.call(black_box(call), &mut header, &mut state, &mut out)
+            },
+            || black_box(call).step(black_box(&self.end), &mut own_out),
+        );
+        Ok(())
+    }
+
+    fn measure_show(&self, meter: &mut impl Meter) {
+        let mut numbers = [0; END_NUMBERS];
+        meter.row(
+            "show an end",
+            || Archive.show(black_box(&self.state), &mut numbers),
+            || black_box(&self.end).numbers(),
+        );
+    }
+}

@@ -1,0 +1,173 @@
+//! The most stack that each entry of the archive took, over many inputs.
+
+use super::machine::Stand;
+use oam_tests::generate::machine::{any_settings, directed_scripts, Script};
+use oam_tests::generate::{any_draft, any_frame, any_log_entry, any_log_line, every_frame};
+use oam_tests::library::machine::{Call, Machine, RECEIVED, STATE_OCTETS};
+use oam_tests::library::{writer_name, Archive, Library, HEADER, PART};
+use oam_tests::measure::stack::PaintedStack;
+use oam_tests::paper::machine::{End, Settings, END_NUMBERS};
+use oam_tests::paper::{list_start, log, LONGEST, WRITTEN};
+use oam_tests::random::Random;
+use std::collections::BTreeMap;
+use std::hint::black_box;
+
+/// Drafts of each kind, frames, and log entries and lines.
+const INPUTS: usize = 10_000;
+const SCRIPTS: usize = 300;
+const SCRIPT_CALLS: usize = 200;
+
+/// The most octets that an entry took, and how often it was called.
+#[derive(Clone, Copy, Debug, Default, PartialEq, Eq)]
+pub struct Deepest {
+    pub octets: usize,
+    pub calls: usize,
+}
+
+pub struct Depths {
+    stack: PaintedStack,
+    random: Random,
+    pub deepest: BTreeMap<&'static str, Deepest>,
+}
+
+/// Calls every entry on inputs of all makers; a seed makes the same ones.
+pub fn measure(seed: u64) -> Result<Depths, String> {
+    let mut depths = Depths {
+        stack: PaintedStack::new(),
+        random: Random::new(seed),
+        deepest: BTreeMap::new(),
+    };
+    depths.writers();
+    depths.frames(Stand::in_send_any()?.state);
+    depths.log();
+    for _ in 0..SCRIPTS {
+        depths.script();
+    }
+    for (settings, calls) in directed_scripts() {
+        depths.directed(&settings, &calls);
+    }
+    Ok(depths)
+}
+
+impl Depths {
+    /// Makes a call of an entry on the painted stack.
+    fn note(&mut self, entry: &'static str, mut call: impl FnMut() -> u64) {
+        let octets = self.stack.depth(|| {
+            black_box(call());
+        });
+        let deepest = self.deepest.entry(entry).or_default();
+        deepest.octets = deepest.octets.max(octets);
+        deepest.calls += 1;
+    }
+
+    fn writers(&mut self) {
+        let mut out = [0; LONGEST];
+        for code in WRITTEN {
+            for _ in 0..INPUTS {
+                let draft = any_draft(&mut self.random, code).draft;
+                self.note(writer_name(code), || Archive.write(&draft, &mut out));
+            }
+        }
+    }
+
+    /// Frames of every length and kind: read, taken apart, and received by an end
+    /// with this state.
+    fn frames(&mut self, state: [u8; STATE_OCTETS]) {
+        let mut frames = every_frame(&mut self.random);
+        frames.extend((0..INPUTS).map(|_| any_frame(&mut self.random)));
+        for made in frames {
+            let mut header = [0; HEADER];
+            self.note("oam_read", || Archive.read(&made.frame, &mut header));
+            if let Some(start) = list_start(header[2] as u8) {
+                self.parts(&made.frame, start);
+            }
+            self.call(&Call::Receive(made.frame), &mut state.clone());
+        }
+    }
+
+    /// The parts of a list, and what stands at any octet.
+    fn parts(&mut self, frame: &[u8], start: usize) {
+        let mut part = [0; PART];
+        let any = self.random.below(frame.len() + 1);
+        self.note("oam_part", || Archive.part(frame, any, &mut part));
+        let (mut at, mut next) = (0, start);
+        while at < next && next <= frame.len() {
+            at = next;
+            self.note("oam_part", || Archive.part(frame, at, &mut part));
+            next = part[0] as usize;
+        }
+    }
+
+    fn log(&mut self) {
+        let (mut line, mut values) = ([0; log::LONGEST_LINE], [0; log::FIELDS]);
+        for _ in 0..INPUTS {
+            let entry = any_log_entry(&mut self.random);
+            self.note("oam_log_write", || {
+                Archive.log_write(entry.number, entry.position, &entry.event, &mut line)
+            });
+            let text = any_log_line(&mut self.random).text;
+            self.note("oam_log_read", || Archive.log_read(&text, &mut values));
+        }
+    }
+
+    fn script(&mut self) {
+        let (settings, _) = any_settings(&mut self.random);
+        let mut state = self.fresh(&settings);
+        let mut script = Script::new(&mut self.random, &settings);
+        for _ in 0..SCRIPT_CALLS {
+            let Some(end) = self.show(&state) else {
+                return; // the settings were refused
+            };
+            let call = script.call(&mut self.random, &end);
+            self.call(&call, &mut state);
+        }
+    }
+
+    fn directed(&mut self, settings: &Settings, calls: &[Call]) {
+        let mut state = self.fresh(settings);
+        for call in calls {
+            self.call(call, &mut state);
+        }
+    }
+
+    fn fresh(&mut self, settings: &Settings) -> [u8; STATE_OCTETS] {
+        let mut state = [0; STATE_OCTETS];
+        self.note("oam_fresh", || Archive.fresh(settings, &mut state));
+        state
+    }
+
+    fn show(&mut self, state: &[u8]) -> Option<End> {
+        let mut numbers = [0; END_NUMBERS];
+        self.note("oam_show", || Archive.show(state, &mut numbers));
+        End::from_numbers(&numbers)
+    }
+
+    /// Makes a call, mostly with room for every frame.
+    fn call(&mut self, call: &Call, state: &mut [u8]) {
+        let room = match self.random.below(16) {
+            0 => self.random.below(LONGEST),
+            _ => LONGEST,
+        };
+        let (mut header, mut out) = ([0; RECEIVED], [0; LONGEST]);
+        let out = &mut out[..room];
+        self.note(call.name(), || Archive.call(call, &mut header, state, out));
+    }
+}
+
+#[cfg(test)]
+mod tests {
+    use super::*;
+
+    #[test]
+    fn every_entry_is_met_often_and_some_take_more_than_others() {
+        let deepest = measure(1)
+            .expect("the archive's machine is the paper's")
+            .deepest;
+        assert_eq!(deepest.len(), 19);
+        assert!(
+            deepest.values().all(|entry| entry.calls >= 300),
+            "{deepest:?}"
+        );
+        assert!(deepest["oam_receive"].octets > deepest["oam_write_loopback"].octets);
+    }
+}
