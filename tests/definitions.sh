@@ -1,21 +1,24 @@
 #!/usr/bin/env bash
 # Changes the machine's definitions, one at a time, and sees that the theorems of `reach` and `pair` no longer hold. `rt
-# must-fail` cannot do this: it changes and proves one crate alone, and the definitions are those of `end` and `link`. Here their
+# must-fail` cannot do this: it changes and proves one crate alone, and the definitions are those of the crates below. Here their
 # code is left out (its contracts would fail before any theorem), so that what is tried is the theorems. Each edit is a file in
-# tests/definitions, in the form of the must-fail edits. Run after `rt check pair`, whose proofs of `frame` and `writer` it uses.
+# tests/definitions, in the form of the must-fail edits. Run after `rt check pair`, whose proofs of `body`, `frame` and `writer` it uses.
 set -euo pipefail
 cd "$(dirname "$0")/.."
 edits="$PWD/tests/definitions"
 room="$PWD/target/definitions"
 rm -rf "$room"
 trap 'rm -rf "$room"' EXIT
-mkdir -p "$room/crates" "$room/target/rlib"
-for crate in frame writer end link reach pair; do
+mkdir -p "$room/crates" "$room/target/rlib" "$room/target/stamp" "$room/target/log"
+for crate in body frame writer limit peer loopback discovery end link reach pair; do
   cp -r "crates/$crate" "$room/crates/"
   grep "^$crate:" crates.txt >> "$room/crates.txt"
 done
-cp -r target/stamp target/log "$room/target/"
-cp -r target/rlib/frame.rlib target/rlib/writer.rlib "$room/target/rlib/"
+for crate in body frame writer; do
+  cp -r "target/rlib/$crate.rlib" "$room/target/rlib/"
+  cp "target/stamp/$crate" "$room/target/stamp/"
+  cp "target/log/$crate".* "$room/target/log/"
+done
 cd "$room/crates"
 
 # The types of a source file, without its functions and what only they use.
@@ -24,11 +27,11 @@ types='
   skipping { if ($0 == "}") skipping = 0; next }
   /^pub use / || /^ghost use / || /^use .*::[a-z_0-9]+;$/ { next }
   { print }'
-for crate in end link; do
+for crate in limit peer loopback discovery end link; do
   for source in "$crate"/src/*.rt; do
     awk "$types" "$source" > types && mv types "$source"
   done
-  rm -r "$crate"/proofs/*/ "$crate/must-fail"
+  rm -rf "$crate"/proofs/*/ "$crate/must-fail"
 done
 cd ..
 rt check pair > log 2>&1 || { cat log; echo "definitions: the theorems do not hold before any edit"; exit 1; }

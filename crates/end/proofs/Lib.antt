@@ -1,1 +1,2 @@
-pub mod Resting
+-- What the proofs of several functions use.
+pub mod Ranging

@@ -1,11 +1,7 @@
-pub mod Bits
-pub mod Roles
-pub mod Ranges
-pub mod Peers
-pub mod Loopback
-pub mod Asking
-pub mod Standing
-pub mod Moves
+pub mod State
 pub mod Sending
-pub mod Limit
-pub mod Owing
+pub mod Ticking
+pub mod Reporting
+pub mod Taking
+pub mod Granting
+pub mod Ranges

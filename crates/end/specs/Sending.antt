@@ -1,69 +1,74 @@
--- What is to be sent.
-use Prim.Native.Nat.{ℕ, _%_}
-use mathlib.Core.Bool.{Bool, true, false, not, _&&_}
-use Rattle.frame.specs.declared.Information.{Information}
-use Rattle.frame.specs.declared.Held.{Held}
-use Rattle.frame.specs.declared.Held.the-variants.{Nothing, Is}
-use Rattle.end.specs.declared.Discovery.{Discovery}
-use Rattle.end.specs.declared.Discovery.the-variants.{Fault, ActiveSendLocal, PassiveWait, SendLocalRemote, SendLocalRemoteOk, SendAny}
-use Rattle.end.specs.declared.Role.{Role}
-use Rattle.end.specs.declared.Settings.{Settings}
-use Rattle.end.specs.Bits.{bit}
-use Rattle.end.specs.Roles.{octetOf}
-
--- "Local field sent: 2 in SEND_LOCAL_REMOTE_OK and SEND_ANY, 1 in ACTIVE_SEND_LOCAL, else 0."
-abbrev pub localField : Discovery → ℕ
-localField Fault = 0
-localField ActiveSendLocal = 1
-localField PassiveWait = 0
-localField SendLocalRemote = 0
-localField SendLocalRemoteOk = 2
-localField SendAny = 2
-
--- "Remote field sent: the kept peer field", and 0 while no record is held (001, Table 57-3)
-unfoldable pub remoteField : ℕ → Held → ℕ
-remoteField kept Nothing = 0
-remoteField kept (Is i) = kept
+-- What every call ends with: the revision, what is owed, and what an Information frame is to say.
+use Prim.Native.Nat.{ℕ}
+use mathlib.Core.Bool.{Bool, false, cond, not, _&&_, _||_}
+use lib.Dec.{eqb}
+use Rattle.frame.specs.Flags.{joined}
+use Rattle.body.specs.declared.Found.{Found}
+use Rattle.body.specs.declared.Held.the-variants.{Nothing, Is}
+use Rattle.loopback.specs.Roles.{octetOf}
+use Rattle.loopback.specs.declared.Role.{Role}
+use Rattle.discovery.specs.Sending.{localField, remoteField, faultFlag, allowedIn, ownInformation, clearedHeld}
+use Rattle.limit.specs.Limit.{room, chargedMeter}
+use Rattle.limit.specs.Owing.{revised, owes}
+use Rattle.end.specs.declared.Own.{Own}
+use Rattle.end.specs.declared.End.{End}
+use Rattle.end.specs.State.{withMeter, withOwn, discoveryOf}
 
 -- "FAULT with the link down if unidirectional (link fault flag, set only there, no TLV)"
-unfoldable pub faultFlag : Bool → ℕ → Bool
-faultFlag up configuration = not up && bit 1 configuration
+unfoldable pub faultOf : End → Bool
+faultOf e = faultFlag (e .link .up) (e .settings .configuration)
 
--- "Allowed: ACTIVE_SEND_LOCAL and the three SEND states ...; FAULT with the link down if unidirectional"
-abbrev pub allowedIn : Discovery → Bool → Bool
-allowedIn Fault fault = fault
-allowedIn ActiveSendLocal fault = true
-allowedIn PassiveWait fault = false
-allowedIn SendLocalRemote fault = true
-allowedIn SendLocalRemoteOk fault = true
-allowedIn SendAny fault = true
+-- the flags to be sent
+unfoldable pub flagsToSend : End → ℕ
+flagsToSend e =
+    joined
+    (record {
+      fault = faultOf e;
+      gasp = e .own .gasp;
+      critical = e .own .critical;
+      local = localField (discoveryOf e);
+      remote = remoteField (e .peer .kept) (e .peer .held);
+    })
 
--- the Local TLV
-unfoldable pub ownInformation : Settings → ℕ → Role → Information
-ownInformation s revision role =
+-- whether an Information frame is allowed
+unfoldable pub allowed : End → Bool
+allowed e = allowedIn (discoveryOf e) (faultOf e)
+
+-- "Local TLV, and Remote if a peer record is held"; with the link down "no TLV"
+unfoldable pub tlvsToSend : End → Found
+tlvsToSend e =
     record {
-      version = 1;
-      revision = revision;
-      state = octetOf role;
-      configuration = s .configuration;
-      oampdu = s .size;
-      oui = s .oui;
-      vendor = s .vendor;
+      local = cond (e .link .up) (Is (ownInformation (e .settings) (e .own .revision) (e .role))) Nothing;
+      remote = cond (e .link .up) (clearedHeld (e .peer .held)) Nothing;
     }
 
--- "and Remote if a peer record is held: its fields, HOUSE with ignored bits zero"
-unfoldable pub clearedInformation : Information → Information
-clearedInformation i =
-    record {
-      version = i .version;
-      revision = i .revision;
-      state = i .state % 8;
-      configuration = i .configuration % 32;
-      oampdu = i .oampdu % 2048;
-      oui = i .oui;
-      vendor = i .vendor;
-    }
+-- "The revision grows by one ... in each call that changes the State octet."
+abbrev pub octetChanged : Role → Role → Bool
+octetChanged before after = not (eqb (octetOf before) (octetOf after))
 
-unfoldable pub clearedHeld : Held → Held
-clearedHeld Nothing = Nothing
-clearedHeld (Is i) = Is (clearedInformation i)
+unfoldable pub changed : End → End → Bool
+changed before e = octetChanged (before .role) (e .role) || not (eqb (flagsToSend before) (flagsToSend e))
+
+-- the revision, and what is owed, after a call that made e of `before`; `due`: a loopback command was obeyed, or a second closed
+unfoldable pub dues : End → Bool → End → End
+dues before due e =
+    withOwn
+    (record {
+      revision = revised (octetChanged (before .role) (e .role)) (e .own .revision);
+      number = e .own .number;
+      gasp = e .own .gasp;
+      critical = e .own .critical;
+      owed = owes (allowed e) (e .own .owed) due (changed before e);
+    })
+    e
+
+-- "the next tick, receive or report (the same call if it can) writes it while fewer than ten are written"
+unfoldable pub sends : End → Bool
+sends e = e .own .owed && room (e .meter)
+
+abbrev pub paid : Own → Own
+paid o = record { revision = o .revision; number = o .number; gasp = o .gasp; critical = o .critical; owed = false }
+
+-- the end after its Information frame is written
+unfoldable pub sent : End → End
+sent e = withOwn (paid (e .own)) (withMeter (chargedMeter (e .meter)) e)

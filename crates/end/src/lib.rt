@@ -1,96 +1,113 @@
-// One end of the link: what its state is made of, and what follows from the parts alone.
+// One end of the link: its state, and the steps that calls make of it.
 //
-// The parts are cut by who changes them, so that what a call does not touch stays as it is by computation. Every function
-// is total on any values; which values an end can have is shown of the calls, in `link`.
-mod asking;
-mod bits;
-mod limit;
-mod loopback;
-mod owing;
-mod peers;
+// The state is cut by who changes it, so that what a step does not touch stays as it is by computation. An end's parts are
+// given out and taken back whole (`end_with` tests them), and nothing but a step of this crate changes one. Every step is
+// total on any end; which ends calls can make is shown in `reach`.
+mod granting;
 mod ranges;
-mod roles;
+mod reporting;
 mod sending;
-mod standing;
+mod state;
+mod taking;
+mod ticking;
 
-pub use asking::fits_both;
-pub use asking::request_answer;
-pub use bits::is_active;
-pub use bits::is_loopback;
-pub use bits::is_unidirectional;
-pub use limit::charged;
-pub use limit::closes;
-pub use limit::has_room;
-pub use limit::is_bounded;
-pub use limit::meter_of;
-pub use limit::new_meter;
-pub use limit::ticks;
-pub use limit::turned;
-pub use limit::written;
-pub use loopback::answer;
-pub use loopback::is_obeyed;
-pub use loopback::may_start;
-pub use loopback::may_stop;
-pub use loopback::role_after_command;
-pub use owing::is_owed;
-pub use owing::next_number;
-pub use owing::next_revision;
-pub use peers::all_four;
-pub use peers::all_three;
-pub use peers::both;
-pub use peers::either;
-pub use peers::held_of;
-pub use peers::is_held;
-pub use peers::is_peer_active;
-pub use peers::is_peer_loopback;
-pub use peers::is_satisfied;
-pub use peers::kept_from;
-pub use peers::maximum;
-pub use peers::peer_maximum;
-pub use peers::record_from;
-pub use peers::told;
-pub use ranges::is_sound;
-pub use roles::role_of;
-pub use sending::allowed_in;
-pub use sending::cleared;
-pub use sending::is_fault;
-pub use sending::local_field;
-pub use sending::own_information;
-pub use sending::remote_field;
-pub use standing::is_any;
-pub use standing::is_lost;
-pub use standing::role_in;
-pub use standing::stands;
+use body::Held;
+use frame::Header;
+pub use granting::answer_to;
+pub use granting::grant;
+pub use granting::grant_number;
+pub use granting::grant_role;
+use limit::Meter;
+use loopback::Role;
+use peer::Settings;
+pub use ranges::end_with;
+pub use reporting::report_due;
+pub use sending::flags;
+pub use sending::is_sending;
+pub use sending::pay;
+pub use sending::tlvs;
+pub use state::discovery;
+pub use state::fresh;
+pub use taking::take_due;
+pub use ticking::turn_due;
 
-// What an end is set to; nothing changes it.
-pub struct Settings {
-    pub configuration: u8,
-    pub size: u16,
-    pub oui: u32,
-    pub vendor: u32,
-    pub source: u64,
-    pub required: u8,
+// The optics' side: whether the link is up, and the lost-link count.
+pub struct Link {
+    pub up: bool,
+    pub lost: u8,
 }
 
-pub enum Discovery {
-    Fault,
-    ActiveSendLocal,
-    PassiveWait,
-    SendLocalRemote,
-    SendLocalRemoteOk,
-    SendAny,
+// The last event number received since FAULT was entered.
+pub enum Last {
+    Never,
+    Number(u16),
 }
 
-pub enum Role {
-    Idle,
-    Asking,
-    Holding,
-    Ending,
-    Looping,
+// What FAULT clears, but the role: the kept peer field, the peer record, the last event number received.
+pub struct Peer {
+    pub kept: u16,
+    pub held: Held,
+    pub last: Last,
 }
 
-// The limit on frames: the ticks since a timer second closed, and the frames written since then.
-pub struct Meter {
-    ticks: u8,
-    written: u8,
+// What the end says of itself: its revision and next event number, the two critical flags, and whether an Information frame
+// is owed.
+pub struct Own {
+    pub revision: u16,
+    pub number: u16,
+    pub gasp: bool,
+    pub critical: bool,
+    pub owed: bool,
+}
+
+pub struct End {
+    settings: Settings,
+    link: Link,
+    peer: Peer,
+    role: Role,
+    meter: Meter,
+    own: Own,
+}
+
+pub enum Report {
+    LinkUp,
+    LinkDown,
+    DyingGasp(bool),
+    CriticalEvent(bool),
+}
+
+// What a body asks of the machine.
+pub enum Action {
+    Inform,
+    Notify(u16),
+    Command(u8),
+    Other,
+}
+
+// What is heard of an accepted frame.
+pub struct Heard {
+    pub header: Header,
+    pub local: Held,
+    pub action: Action,
+}
+
+// What a receive shows: nothing, the header of an accepted frame, or the header and the number of a notification whose
+// events are new. A notification that shows its header only is a repeat or came outside SEND_ANY: its events are not taken.
+pub enum Shown {
+    Nothing,
+    Frame(Header),
+    Events(Header, u16),
+}
+
+// What a frame comes to: the end after it, whether a loopback command was obeyed, and what is shown.
+pub struct Taken {
+    pub end: End,
+    pub due: bool,
+    pub shown: Shown,
+}
+
+// A fresh end, or the number of the settings' refusal.
+pub enum FreshEnd {
+    Refused(u8),
+    Is(End),
 }

@@ -1,29 +1,110 @@
-// Settings that the paper takes.
+// What every end keeps to that calls have made of a fresh one.
 ghost use mathlib.Core.Path.{_≡_};
-ghost use Rattle.end.specs.Ranges.{sound};
-use crate::Settings;
+ghost use Rattle.end.specs.Ranges.{heldFits, lastFits, never, idle, blank, ranged, endWith, checked};
+use crate::End;
+use crate::FreshEnd;
+use crate::Last;
+use crate::Link;
+use crate::Own;
+use crate::Peer;
+use crate::sending::is_allowed;
+use crate::state::in_any;
+use body::Held;
+use limit::Meter;
+use loopback::Role;
+use peer::Settings;
 
-// Whether every value is in its range; other settings yield no end.
-pub fn is_sound(settings: Settings) -> bool
-    ensures { λ r. ⌜ r ≡ sound settings ⌝ }
+// Only the OUI is narrower than its type.
+fn held_fits(held: Held) -> bool
+    ensures { λ r. ⌜ r ≡ heldFits held ⌝ }
 {
-    if 32 <= settings.configuration {
-        return false;
+    match held {
+        Held::Nothing => true,
+        Held::Is(i) => i.oui < 0x1000000,
     }
-    if settings.size < 64 {
-        return false;
+}
+
+// As its type has it.
+fn last_fits(last: Last) -> bool
+    ensures { λ r. ⌜ r ≡ lastFits last ⌝ }
+{
+    match last {
+        Last::Never => true,
+        Last::Number(n) => n <= 0xffff,
     }
-    if 1518 < settings.size {
-        return false;
+}
+
+fn is_never(last: Last) -> bool
+    ensures { λ r. ⌜ r ≡ never last ⌝ }
+{
+    match last {
+        Last::Never => true,
+        Last::Number(_) => false,
     }
-    if 0x1000000 <= settings.oui {
-        return false;
+}
+
+fn is_idle(role: Role) -> bool
+    ensures { λ r. ⌜ r ≡ idle role ⌝ }
+{
+    match role {
+        Role::Idle => true,
+        Role::Asking => false,
+        Role::Holding => false,
+        Role::Ending => false,
+        Role::Looping => false,
     }
-    if 0x1000000000000 <= settings.source {
-        return false;
+}
+
+fn is_blank(peer: Peer) -> bool
+    ensures { λ r. ⌜ r ≡ blank peer ⌝ }
+{
+    let held = peer.held;
+    let last = peer.last;
+    peer::all_three(peer.kept == 0, !peer::is_held(held), is_never(last))
+}
+
+// Whether an end keeps to its ranges. What its types alone keep to is not tested.
+fn is_ranged(e: End) -> bool
+    ensures { λ r. ⌜ r ≡ ranged e ⌝ }
+{
+    let peer = e.peer;
+    let held = peer.held;
+    let last = peer.last;
+    let role = e.role;
+    let owed = peer::either(!e.own.owed, is_allowed(e));
+    let used = peer::either(is_idle(role), in_any(e));
+    let cleared = peer::either(e.link.up, is_blank(peer));
+    let standing = peer::all_four(cleared, used, limit::is_bounded(e.meter), owed);
+    let parts = peer::all_three(held_fits(held), last_fits(last), standing);
+    peer::all_four(
+        peer::is_sound(e.settings),
+        e.link.lost < 50,
+        peer.kept <= 2,
+        parts,
+    )
+}
+
+// The end of six parts, or 10 where no end that keeps to its ranges has them.
+pub fn end_with(
+    settings: Settings,
+    link: Link,
+    peer: Peer,
+    role: Role,
+    meter: Meter,
+    own: Own,
+) -> FreshEnd
+    ensures { λ r. ⌜ r ≡ checked (endWith settings link peer role meter own) ⌝ }
+{
+    let e = End {
+        settings: settings,
+        link: link,
+        peer: peer,
+        role: role,
+        meter: meter,
+        own: own,
+    };
+    if is_ranged(e) {
+        return FreshEnd::Is(e);
     }
-    if 32 <= settings.required {
-        return false;
-    }
-    settings.required % 2 == 0
+    FreshEnd::Refused(10)
 }

@@ -1,91 +1,108 @@
-// What is to be sent: the two flag fields, whether an Information frame is allowed, and its TLVs.
+// What every call ends with: the revision, what is owed, and what an Information frame is to say.
 ghost use mathlib.Core.Path.{_≡_};
-ghost use Rattle.end.specs.Sending.{localField, remoteField, faultFlag, allowedIn, ownInformation, clearedInformation, clearedHeld};
-use crate::Discovery;
-use crate::Role;
-use crate::Settings;
-use crate::bits::is_unidirectional;
-use frame::Held;
-use frame::Information;
+ghost use Rattle.end.specs.Sending.{faultOf, flagsToSend, allowed, tlvsToSend, octetChanged, dues, sends, sent};
+use crate::End;
+use crate::Own;
+use crate::state::discovery;
+use body::Found;
+use body::Held;
+use frame::Flags;
+use loopback::Role;
 
-pub fn local_field(discovery: Discovery) -> u16
-    ensures { λ r. ⌜ r ≡ localField discovery ⌝ }
+fn is_fault(e: End) -> bool
+    ensures { λ r. ⌜ r ≡ faultOf e ⌝ }
 {
-    match discovery {
-        Discovery::Fault => 0,
-        Discovery::ActiveSendLocal => 1,
-        Discovery::PassiveWait => 0,
-        Discovery::SendLocalRemote => 0,
-        Discovery::SendLocalRemoteOk => 2,
-        Discovery::SendAny => 2,
+    let link = e.link;
+    let settings = e.settings;
+    discovery::is_fault(link.up, settings.configuration)
+}
+
+// The flags to be sent.
+pub fn flags(e: End) -> u16
+    ensures { λ r. ⌜ r ≡ flagsToSend e ⌝ }
+{
+    let own = e.own;
+    let peer = e.peer;
+    let held = peer.held;
+    frame::join_flags(Flags {
+        fault: is_fault(e),
+        gasp: own.gasp,
+        critical: own.critical,
+        local: discovery::local_field(discovery(e)),
+        remote: discovery::remote_field(peer.kept, held),
+    })
+}
+
+pub(crate) fn is_allowed(e: End) -> bool
+    ensures { λ r. ⌜ r ≡ allowed e ⌝ }
+{
+    discovery::allowed_in(discovery(e), is_fault(e))
+}
+
+// The TLVs of the Information frame; none with the link down.
+pub fn tlvs(e: End) -> Found
+    ensures { λ r. ⌜ r ≡ tlvsToSend e ⌝ }
+{
+    let link = e.link;
+    if link.up {
+        let own = e.own;
+        let role = e.role;
+        let peer = e.peer;
+        let held = peer.held;
+        return Found {
+            local: Held::Is(discovery::own_information(e.settings, own.revision, role)),
+            remote: discovery::cleared(held),
+        };
+    }
+    Found {
+        local: Held::Nothing,
+        remote: Held::Nothing,
     }
 }
 
-// The kept field while a record is held, else 0 (001, Table 57-3).
-pub fn remote_field(kept: u16, peer: Held) -> u16
-    ensures { λ r. ⌜ r ≡ remoteField kept peer ⌝ }
+fn octet_changed(before: Role, after: Role) -> bool
+    ensures { λ r. ⌜ r ≡ octetChanged before after ⌝ }
 {
-    match peer {
-        Held::Nothing => 0,
-        Held::Is(_) => kept,
+    before.octet() != after.octet()
+}
+
+// The revision, and what is owed, after a call that made an end of another.
+pub(crate) fn note(before: End, due: bool, e: End) -> End
+    ensures { λ r. ⌜ r ≡ dues before due e ⌝ }
+{
+    let own = e.own;
+    let was = before.role;
+    let is = e.role;
+    let octet = octet_changed(was, is);
+    let told = peer::either(octet, flags(before) != flags(e));
+    let next = Own {
+        revision: limit::next_revision(octet, own.revision),
+        owed: limit::is_owed(is_allowed(e), own.owed, due, told),
+        ..own
+    };
+    End { own: next, ..e }
+}
+
+// The end after its Information frame is written.
+pub fn pay(e: End) -> End
+    ensures { λ r. ⌜ r ≡ sent e ⌝ }
+{
+    let own = e.own;
+    let meter = e.meter;
+    End {
+        own: Own { owed: false, ..own },
+        meter: limit::charged(meter),
+        ..e
     }
 }
 
-// FAULT with the link down, if unidirectional.
-pub fn is_fault(up: bool, configuration: u8) -> bool
-    ensures { λ r. ⌜ r ≡ faultFlag up configuration ⌝ }
+// Whether the owed Information frame may be written.
+pub fn is_sending(e: End) -> bool
+    ensures { λ r. ⌜ r ≡ sends e ⌝ }
 {
-    if up {
-        return false;
+    let own = e.own;
+    if own.owed {
+        return limit::has_room(e.meter);
     }
-    is_unidirectional(configuration)
-}
-
-pub fn allowed_in(discovery: Discovery, fault: bool) -> bool
-    ensures { λ r. ⌜ r ≡ allowedIn discovery fault ⌝ }
-{
-    match discovery {
-        Discovery::Fault => fault,
-        Discovery::ActiveSendLocal => true,
-        Discovery::PassiveWait => false,
-        Discovery::SendLocalRemote => true,
-        Discovery::SendLocalRemoteOk => true,
-        Discovery::SendAny => true,
-    }
-}
-
-// The Local TLV.
-pub fn own_information(settings: Settings, revision: u16, role: Role) -> Information
-    ensures { λ r. ⌜ r ≡ ownInformation settings revision role ⌝ }
-{
-    Information {
-        version: 1,
-        revision: revision,
-        state: role.octet(),
-        configuration: settings.configuration,
-        oampdu: settings.size,
-        oui: settings.oui,
-        vendor: settings.vendor,
-    }
-}
-
-fn cleared_information(i: Information) -> Information
-    ensures { λ r. ⌜ r ≡ clearedInformation i ⌝ }
-{
-    Information {
-        state: i.state % 8,
-        configuration: i.configuration % 32,
-        oampdu: i.oampdu % 2048,
-        ..i
-    }
-}
-
-// The Remote TLV: the peer record's fields with the ignored bits zero.
-pub fn cleared(peer: Held) -> Held
-    ensures { λ r. ⌜ r ≡ clearedHeld peer ⌝ }
-{
-    match peer {
-        Held::Nothing => Held::Nothing,
-        Held::Is(i) => Held::Is(cleared_information(i)),
-    }
+    false
 }

@@ -1,7 +1,7 @@
 -- The flags number and its parts.
 use Prim.Native.Nat.{ℕ, _+_, _*_, _/_, _%_}
-use mathlib.Core.Bool.{Bool, true, false}
 use lib.Dec.{eqb}
+use Rattle.body.specs.Octets.{bitOf}
 use Rattle.frame.specs.declared.Flags.{Flags}
 
 -- "Flags: bit 0 link fault, 1 dying gasp, 2 critical event, 4:3 local field, 6:5 remote field, others sent 0 and ignored."
@@ -14,10 +14,6 @@ flagsOf n =
       local = n / 8 % 4;
       remote = n / 32 % 4;
     }
-
-abbrev pub bitOf : Bool → ℕ
-bitOf true = 1
-bitOf false = 0
 
 -- the number of the parts, each field cut to its two bits; the other bits are "sent 0"
 unfoldable pub joined : Flags → ℕ

@@ -1,56 +1,18 @@
 -- How the code comes to its answers. No public promise mentions anything here.
 use Prim.Native.Nat.{ℕ}
 use mathlib.Core.List.{List}
-use mathlib.Core.Bool.{Bool, true, false, cond}
+use mathlib.Core.Bool.{Bool, cond}
 use lib.ListN.{getD, drop}
 use lib.Dec.{eqb}
-use Rattle.frame.specs.Octets.{num}
-use Rattle.frame.specs.Walk.{Parsed, refused, parts}
-use Rattle.frame.specs.Information.{InformationPart, local, remote, informationWalk, informationParts, keep, keepAll, nothing}
-use Rattle.frame.specs.Lists.{wholeList}
-use Rattle.frame.specs.declared.Information.{Information}
-use Rattle.frame.specs.declared.InformationStep.{InformationStep}
-use Rattle.frame.specs.declared.InformationStep.the-variants.{End, Broken, Skip, Local, Remote}
-use Rattle.frame.specs.declared.Held.{Held}
-use Rattle.frame.specs.declared.Held.the-variants.{Nothing, Is}
-use Rattle.frame.specs.declared.Found.{Found}
-use Rattle.frame.specs.declared.«local_remote».Gathered.{Gathered}
-use Rattle.frame.specs.declared.«local_remote».Gathered.the-variants.{Refused as RefusedGathered, Whole}
-use Rattle.frame.specs.declared.«local_remote».Turn.{Turn}
-use Rattle.frame.specs.declared.«local_remote».Turn.the-variants.{Done, More}
+use Rattle.body.specs.Octets.{num}
+use Rattle.body.specs.Lists.{wholeList}
+use Rattle.body.specs.declared.Gathered.{Gathered}
+use Rattle.body.specs.declared.Gathered.the-variants.{Refused as RefusedGathered, Whole}
 use Rattle.frame.specs.declared.Header.{Header}
-use Rattle.frame.specs.declared.lists.ListKind.the-variants.{Events, Descriptors, Containers}
+use Rattle.body.specs.declared.ListKind.the-variants.{Events, Descriptors, Containers}
 use Rattle.frame.specs.declared.Reading.{Reading}
 use Rattle.frame.specs.declared.Reading.the-variants.{Refused, Information as InformationIs, Notification, Request, Response, Loopback, Organization}
-
--- ---- the TLVs found in an Information body
-
-abbrev pub gathered : Found → Parsed InformationPart → Gathered
-gathered found (refused n) = RefusedGathered n
-gathered found (parts ps) = Whole (keepAll found ps)
-
-unfoldable pub gatheredOf : List ℕ → Gathered
-gatheredOf s = gathered nothing (informationParts false false (informationWalk s))
-
--- one turn of the reader
-abbrev pub isHeld : Held → Bool
-isHeld Nothing = false
-isHeld (Is i) = true
-
-abbrev pub keepLocal : Found → Information → ℕ → Turn
-keepLocal found i n = cond (isHeld (found .local)) (Done (RefusedGathered 7)) (More n (keep found (local i)))
-
-abbrev pub keepRemote : Found → Information → ℕ → Turn
-keepRemote found i n = cond (isHeld (found .remote)) (Done (RefusedGathered 7)) (More n (keep found (remote i)))
-
-abbrev pub turnOf : InformationStep → Found → Turn
-turnOf End found = Done (Whole found)
-turnOf Broken found = Done (RefusedGathered 6)
-turnOf (Skip n) found = More n found
-turnOf (Local i n) found = keepLocal found i n
-turnOf (Remote i n) found = keepRemote found i n
-
--- ---- the reading, by the code
+use Rattle.body.specs.Gathering.{gatheredOf}
 
 unfoldable pub headerOf : List ℕ → Header
 headerOf f = record { source = num 6 f 6; flags = num 2 f 15; code = getD f 17 0 }

@@ -3,11 +3,11 @@ use Prim.Native.Nat.{ℕ}
 use mathlib.Core.Path.{_≡_}
 use mathlib.Core.List.{List}
 use lib.ListN.{getD, drop}
-use Rattle.frame.specs.Octets.{num}
-use Rattle.frame.specs.Walk.{met}
-use Rattle.frame.specs.Information.{informationWalk}
-use Rattle.frame.specs.Events.{eventWalk}
-use Rattle.frame.specs.Variables.{descriptorWalk, containerWalk}
+use Rattle.body.specs.Octets.{num}
+use Rattle.body.specs.Walk.{met}
+use Rattle.body.specs.Information.{informationWalk}
+use Rattle.body.specs.Events.{eventWalk}
+use Rattle.body.specs.Variables.{descriptorWalk, containerWalk}
 use Rattle.frame.specs.Frame.{Body, information, notification, request, response, loopback, organization}
 
 -- The parts of a body are what the steps give, each kind over its part of the frame, skipped TLVs left out; numbers stand at

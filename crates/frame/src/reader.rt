@@ -1,18 +1,24 @@
 // The reader of a whole frame: answers 1 to 5 in order, then the body in octet order.
 ghost use mathlib.Core.Path.{_≡_};
-ghost use Prim.Native.Nat.{_≤_};
+ghost use Prim.Native.Nat.{_+_, _^_, _≤_, _<_};
 ghost use lib.ListN.{length};
+ghost use Rattle.body.specs.Octets.{num};
 ghost use Rattle.frame.specs.Frame.{headerAnswer, decode, readingOf};
 ghost use Rattle.frame.specs.Reader.{headerOf, bodyReading, gatheredReading, listReading, loopbackReading};
 use crate::Header;
 use crate::Reading;
-use crate::lists::ListKind;
-use crate::lists::is_whole;
-use crate::local_remote::Gathered;
-use crate::local_remote::gather;
-use crate::octets::number;
 use crate::parts::body;
 use crate::parts::events_body;
+use body::Gathered;
+use body::ListKind;
+
+// The number in the width octets from octet at, all of them there.
+fn number(frame: &[u8], at: usize, width: usize) -> u64
+    requires { ⌜ (width ≤ 8) × (at + width ≤ length (now frame)) ⌝ }
+    ensures { λ r. ⌜ (r ≡ num width (now (frame .entry)) at) × (r < 256 ^ width) ⌝ }
+{
+    body::number_at(frame, at, width)
+}
 
 // The tests 1 to 4 in order: the number of the first that fails, or 0.
 fn header_answer(frame: &[u8]) -> u8
@@ -82,17 +88,17 @@ fn body_reading(frame: &[u8], header: Header) -> Reading
 {
     let code = header.code;
     match code {
-        0 => gathered_reading(header, gather(body(frame))),
+        0 => gathered_reading(header, body::gather(body(frame))),
         1 => list_reading(
-            is_whole(ListKind::Events, events_body(frame)),
+            body::is_whole(ListKind::Events, events_body(frame)),
             Reading::Notification(header, number(frame, 18, 2) as u16),
         ),
         2 => list_reading(
-            is_whole(ListKind::Descriptors, body(frame)),
+            body::is_whole(ListKind::Descriptors, body(frame)),
             Reading::Request(header),
         ),
         3 => list_reading(
-            is_whole(ListKind::Containers, body(frame)),
+            body::is_whole(ListKind::Containers, body(frame)),
             Reading::Response(header),
         ),
         4 => loopback_reading(header, frame[18]),

@@ -9,11 +9,13 @@ use lib.ListN.{length}
 use Rattle.frame.specs.Frame.{Message}
 use Rattle.writer.specs.Writing.{writes, written, Writing, messageOf}
 use Rattle.writer.specs.declared.Written.{Written}
-use Rattle.link.specs.declared.End.{End}
+use Rattle.end.specs.declared.End.{End}
 use Rattle.link.specs.declared.Outcome.{Outcome}
-use Rattle.link.specs.declared.Shown.the-variants.{Nothing}
-use Rattle.link.specs.Sending.{flagsToSend, lengthOf, outcome}
-use Rattle.link.specs.Requests.{Asked, answerTo, granted, requestToSend, asks, asksOutput, concludedRequest, concludedRequestOutput}
+use Rattle.end.specs.declared.Shown.the-variants.{Nothing}
+use Rattle.end.specs.Sending.{flagsToSend}
+use Rattle.link.specs.Outcomes.{lengthOf, outcome}
+use Rattle.link.specs.Requests.{Asked, requestToSend, asks, asksOutput, concludedRequest, concludedRequestOutput}
+use Rattle.end.specs.Granting.{answerTo, granted}
 
 module _ (octets : ℕ) (a : Asked) (e : End) (out : List ℕ) (answer : ℕ) (answers : answer ≡ answerTo octets (a .permitted) (length out) e) where
   -- the two promises of a request

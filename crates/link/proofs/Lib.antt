@@ -1,5 +1,2 @@
--- What the proofs of several functions use, and what follows from the promises.
+-- What the proofs of several functions use.
 mod Asking
-mod Sames
-pub mod Ranging
-pub mod Numbering

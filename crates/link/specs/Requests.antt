@@ -1,26 +1,23 @@
 -- The five requests.
 use Prim.Native.Nat.{ℕ}
 use mathlib.Core.List.{List}
-use mathlib.Core.Bool.{Bool, true, false, cond}
-use lib.Dec.{ltb, leb, eqb}
+use mathlib.Core.Bool.{Bool, true, cond}
+use lib.Dec.{eqb}
 use lib.ListN.{length}
 use Rattle.frame.specs.Frame.{Body, notification, request, loopback, organization, Message}
 use Rattle.writer.specs.Plain.{sized}
 use Rattle.writer.specs.Writing.{writes, written, messageOf, eventsOf}
-use Rattle.end.specs.Bits.{bit}
-use Rattle.end.specs.Peers.{peerMaximum}
-use Rattle.end.specs.Loopback.{mayStart, mayStop}
-use Rattle.end.specs.Asking.{fitsBoth, requestAnswer}
-use Rattle.end.specs.Limit.{room, chargedMeter}
-use Rattle.end.specs.Owing.{following}
-use Rattle.end.specs.declared.Role.{Role}
-use Rattle.end.specs.declared.Role.the-variants.{Asking, Ending}
-use Rattle.link.specs.declared.Own.{Own}
-use Rattle.link.specs.declared.End.{End}
-use Rattle.link.specs.declared.Shown.the-variants.{Nothing}
+use Rattle.peer.specs.Bits.{bit}
+use Rattle.loopback.specs.Loopback.{mayStart, mayStop}
+use Rattle.loopback.specs.declared.Role.{Role}
+use Rattle.loopback.specs.declared.Role.the-variants.{Asking, Ending}
+use Rattle.end.specs.declared.End.{End}
+use Rattle.end.specs.declared.Shown.the-variants.{Nothing}
 use Rattle.link.specs.declared.Outcome.{Outcome}
-use Rattle.link.specs.State.{withRole, withMeter, withOwn, inAny}
-use Rattle.link.specs.Sending.{flagsToSend, dues, sent, lengthOf, outcome}
+use Rattle.end.specs.State.{withRole}
+use Rattle.end.specs.Sending.{flagsToSend}
+use Rattle.link.specs.Outcomes.{lengthOf, outcome}
+use Rattle.end.specs.Granting.{answerTo, granted, numbered}
 
 -- a request: whether the role, the mode and the peer's capability allow it, what it makes of the end, and the body of its frame
 pub record Asked : Type 0 where
@@ -44,26 +41,12 @@ stopping e = commanding (mayStop (e .settings .configuration) (e .role)) Ending 
 abbrev pub requesting : List ℕ → End → Asked
 requesting ds e = record { permitted = bit 0 (e .settings .configuration); next = e; body = request ds }
 
--- "The event number sent does the same at each notification": this one carries the present number
-abbrev pub numbered : End → End
-numbered e =
-    withOwn (record { revision = e .own .revision; number = following (e .own .number); gasp = e .own .gasp; critical = e .own .critical; owed = e .own .owed }) e
-
 abbrev pub notifying : List ℕ → End → Asked
 notifying vs e = record { permitted = true; next = numbered e; body = notification (e .own .number) (eventsOf vs) }
 
 -- "organization specific with its OUI"
 abbrev pub telling : ℕ → List ℕ → End → Asked
 telling oui x e = record { permitted = true; next = e; body = organization oui x }
-
--- the answer to a request for a frame of some octets (0 where it has no plain form), by the lent output's length
-unfoldable pub answerTo : ℕ → Bool → ℕ → End → ℕ
-answerTo octets permitted lent e =
-    requestAnswer (ltb 0 octets) (inAny e) permitted (fitsBoth octets (e .settings .size) (peerMaximum (e .peer .held))) (room (e .meter)) (leb octets lent)
-
--- the end after a request is granted: its revision, what is owed, and one frame more that is written
-unfoldable pub granted : End → End → End
-granted before e = withMeter (chargedMeter (dues before false e .meter)) (dues before false e)
 
 -- "Every OAM frame the machine writes carries the flags as they stand after its call."
 unfoldable pub requestToSend : Body → End → Message

@@ -1,32 +1,13 @@
 -- Ticks.
-use Prim.Native.Nat.{ℕ, _+_}
+use Prim.Native.Nat.{ℕ}
 use mathlib.Core.List.{List}
-use mathlib.Core.Bool.{Bool, true, false, cond}
+use mathlib.Core.Bool.{cond}
 use lib.ListN.{length}
-use Rattle.end.specs.Standing.{isLost}
-use Rattle.end.specs.Limit.{closing, turnedMeter}
-use Rattle.link.specs.declared.End.{End}
-use Rattle.link.specs.declared.Shown.the-variants.{Nothing}
+use Rattle.end.specs.declared.End.{End}
+use Rattle.end.specs.declared.Shown.the-variants.{Nothing}
 use Rattle.link.specs.declared.Outcome.{Outcome}
-use Rattle.link.specs.State.{withLink, withMeter, faulted, settled}
-use Rattle.link.specs.Sending.{tooShort, dues, outcome, concluded, concludedOutput}
-
--- "A tick with the link up adds 1 to the lost-link count; 50 enters FAULT and clears it."
-unfoldable pub missed : End → End
-missed e =
-    cond (e .link .up)
-    (cond (isLost (e .link .lost))
-    (withLink (record { up = true; lost = 0 }) (faulted e))
-    (withLink (record { up = true; lost = e .link .lost + 1 }) e))
-    e
-
--- "After the count and the moves, every tenth tick from fresh (link down or up) closes a timer second: frames written back to 0"
-unfoldable pub ticked : End → End
-ticked e = withMeter (turnedMeter (e .meter)) (settled (missed e))
-
--- "then an Information frame if allowed. That frame belongs to the new second and settles any owed one."
-unfoldable pub tickedDue : End → End
-tickedDue e = dues e (closing (e .meter)) (ticked e)
+use Rattle.link.specs.Outcomes.{tooShort, outcome, concluded, concludedOutput}
+use Rattle.end.specs.Ticking.{tickedDue}
 
 unfoldable pub tickOf : ℕ → End → Outcome
 tickOf octets e = cond (tooShort octets) (outcome e 9 0 Nothing) (concluded octets Nothing (tickedDue e))

@@ -1,47 +1,15 @@
 // The five requests. None of them writes an owed Information frame: the next tick, receive or report does.
 ghost use mathlib.Core.Path.{_≡_};
 ghost use lib.ListN.{length};
-ghost use Rattle.link.specs.Sending.{lengthOf, outcome};
-ghost use Rattle.link.specs.Requests.{commanding, starting, stopping, requesting, notifying, telling, numbered, answerTo, granted, asks, asksOutput, requestOf, requestOutput};
-use crate::End;
+ghost use Rattle.link.specs.Outcomes.{lengthOf, outcome};
+ghost use Rattle.link.specs.Requests.{commanding, starting, stopping, requesting, notifying, telling, asks, asksOutput, requestOf, requestOutput};
 use crate::Outcome;
-use crate::Own;
-use crate::Shown;
-use crate::sending::flags;
-use crate::sending::length_of;
-use crate::sending::note;
-use crate::sending::outcome;
-use crate::state::in_any;
-use end::Role;
+use crate::concluding::length_of;
+use crate::concluding::outcome;
+use end::End;
+use end::Shown;
+use loopback::Role;
 use writer::Written;
-
-// The answer to a request for a frame of some octets, 0 where it has no plain form.
-fn answer_to(octets: usize, permitted: bool, lent: usize, e: End) -> u8
-    ensures { λ r. ⌜ r ≡ answerTo octets permitted lent e ⌝ }
-{
-    let settings = e.settings;
-    let peer = e.peer;
-    let held = peer.held;
-    end::request_answer(
-        0 < octets,
-        in_any(e),
-        permitted,
-        end::fits_both(octets, settings.size, end::peer_maximum(held)),
-        end::has_room(e.meter),
-        octets <= lent,
-    )
-}
-
-fn grant(before: End, e: End) -> End
-    ensures { λ r. ⌜ r ≡ granted before e ⌝ }
-{
-    let after = note(before, false, e);
-    let meter = after.meter;
-    End {
-        meter: end::charged(meter),
-        ..after
-    }
-}
 
 fn refuse(e: End, answer: u8) -> Outcome
     ensures { λ r. ⌜ r ≡ outcome e answer 0 Shown.Nothing ⌝ }
@@ -59,11 +27,11 @@ fn send(e: End, written: Written) -> Outcome
 fn order(permitted: bool, role: Role, command: u8, e: End, out: &mut [u8]) -> Outcome
     ensures { λ r. ⌜ (r ≡ asks 60 (commanding permitted role command e) (length (now (out .entry))) e) × (now (out .exit) ≡ asksOutput 60 (commanding permitted role command e) e (now (out .entry))) ⌝ }
 {
-    let answer = answer_to(60, permitted, out.len(), e);
+    let answer = end::answer_to(60, permitted, out.len(), e);
     if answer == 0 {
-        let after = grant(e, End { role: role, ..e });
-        let settings = after.settings;
-        let written = writer::write_loopback(settings.source, flags(after), command, out);
+        let after = end::grant_role(e, role);
+        let settings = after.settings();
+        let written = writer::write_loopback(settings.source, end::flags(after), command, out);
         return send(after, written);
     }
     refuse(e, answer)
@@ -73,11 +41,11 @@ fn order(permitted: bool, role: Role, command: u8, e: End, out: &mut [u8]) -> Ou
 pub fn start(e: End, out: &mut [u8]) -> Outcome
     ensures { λ r. ⌜ (r ≡ requestOf (starting e) (length (now (out .entry))) e) × (now (out .exit) ≡ requestOutput (starting e) e (now (out .entry))) ⌝ }
 {
-    let settings = e.settings;
-    let peer = e.peer;
+    let settings = e.settings();
+    let peer = e.peer();
     let held = peer.held;
-    let role = e.role;
-    let permitted = end::may_start(settings.configuration, held, role);
+    let role = e.role();
+    let permitted = loopback::may_start(settings.configuration, held, role);
     order(permitted, Role::Asking, 1, e, out)
 }
 
@@ -85,9 +53,9 @@ pub fn start(e: End, out: &mut [u8]) -> Outcome
 pub fn stop(e: End, out: &mut [u8]) -> Outcome
     ensures { λ r. ⌜ (r ≡ requestOf (stopping e) (length (now (out .entry))) e) × (now (out .exit) ≡ requestOutput (stopping e) e (now (out .entry))) ⌝ }
 {
-    let settings = e.settings;
-    let role = e.role;
-    let permitted = end::may_stop(settings.configuration, role);
+    let settings = e.settings();
+    let role = e.role();
+    let permitted = loopback::may_stop(settings.configuration, role);
     order(permitted, Role::Ending, 2, e, out)
 }
 
@@ -95,43 +63,41 @@ pub fn stop(e: End, out: &mut [u8]) -> Outcome
 pub fn request_variables(e: End, descriptors: &[u32], out: &mut [u8]) -> Outcome
     ensures { λ r. ⌜ (r ≡ requestOf (requesting (now (descriptors .entry)) e) (length (now (out .entry))) e) × (now (out .exit) ≡ requestOutput (requesting (now (descriptors .entry)) e) e (now (out .entry))) ⌝ }
 {
-    let settings = e.settings;
+    let settings = e.settings();
     let octets = writer::request_octets(descriptors);
-    let answer = answer_to(octets, end::is_active(settings.configuration), out.len(), e);
+    let answer = end::answer_to(
+        octets,
+        peer::is_active(settings.configuration),
+        out.len(),
+        e,
+    );
     if answer == 0 {
-        let after = grant(e, e);
+        let after = end::grant(e);
         let source = settings.source;
-        let written = writer::write_request(source, flags(after), descriptors, out);
+        let written = writer::write_request(source, end::flags(after), descriptors, out);
         return send(after, written);
     }
     refuse(e, answer)
-}
-
-fn take_number(e: End) -> End
-    ensures { λ r. ⌜ r ≡ numbered e ⌝ }
-{
-    let own = e.own;
-    End {
-        own: Own {
-            number: end::next_number(own.number),
-            ..own
-        },
-        ..e
-    }
 }
 
 // Notifies the peer of events, each seven numbers: its type and its six values.
 pub fn notify(e: End, events: &[u64], out: &mut [u8]) -> Outcome
     ensures { λ r. ⌜ (r ≡ requestOf (notifying (now (events .entry)) e) (length (now (out .entry))) e) × (now (out .exit) ≡ requestOutput (notifying (now (events .entry)) e) e (now (out .entry))) ⌝ }
 {
-    let settings = e.settings;
-    let own = e.own;
+    let settings = e.settings();
+    let own = e.own();
     let octets = writer::notification_octets(own.number, events);
-    let answer = answer_to(octets, true, out.len(), e);
+    let answer = end::answer_to(octets, true, out.len(), e);
     if answer == 0 {
-        let after = grant(e, take_number(e));
+        let after = end::grant_number(e);
         let source = settings.source;
-        let written = writer::write_notification(source, flags(after), own.number, events, out);
+        let written = writer::write_notification(
+            source,
+            end::flags(after),
+            own.number,
+            events,
+            out,
+        );
         return send(after, written);
     }
     refuse(e, answer)
@@ -141,13 +107,13 @@ pub fn notify(e: End, events: &[u64], out: &mut [u8]) -> Outcome
 pub fn send_organization(e: End, oui: u32, octets: &[u8], out: &mut [u8]) -> Outcome
     ensures { λ r. ⌜ (r ≡ requestOf (telling oui (now (octets .entry)) e) (length (now (out .entry))) e) × (now (out .exit) ≡ requestOutput (telling oui (now (octets .entry)) e) e (now (out .entry))) ⌝ }
 {
-    let settings = e.settings;
+    let settings = e.settings();
     let size = writer::organization_octets(oui, octets);
-    let answer = answer_to(size, true, out.len(), e);
+    let answer = end::answer_to(size, true, out.len(), e);
     if answer == 0 {
-        let after = grant(e, e);
+        let after = end::grant(e);
         let source = settings.source;
-        let written = writer::write_organization(source, flags(after), oui, octets, out);
+        let written = writer::write_organization(source, end::flags(after), oui, octets, out);
         return send(after, written);
     }
     refuse(e, answer)

@@ -2,8 +2,8 @@
 use mathlib.Core.Path.{_≡_}
 use mathlib.Core.List.{List}
 use Prim.Native.Nat.{ℕ}
-use Rattle.link.specs.declared.End.{End}
-use Rattle.link.specs.declared.FreshEnd.the-variants.{Is}
+use Rattle.end.specs.declared.End.{End}
+use Rattle.end.specs.declared.FreshEnd.the-variants.{Is}
 use Rattle.packing.specs.Octets.{packedIn, unpacked}
 use Rattle.packing.proofs.Packing.{unpacked-ranged, stored-unpacked}
 use Rattle.reach.specs.Machine.{Call, outcomeOf}

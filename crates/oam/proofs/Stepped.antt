@@ -7,11 +7,11 @@ use native.Mathlib.Omega.{arith}
 use lib.ListN.{length, set}
 use lib.Seq.{sets}
 use Rattle.writer.proofs.Stores.{sets-append}
-use Rattle.link.specs.declared.End.{End}
-use Rattle.link.specs.declared.FreshEnd.{FreshEnd}
-use Rattle.link.specs.declared.FreshEnd.the-variants.{Refused, Is}
-use Rattle.link.specs.declared.Shown.{Shown}
-use Rattle.link.specs.declared.Shown.the-variants.{Nothing, Frame, Events}
+use Rattle.end.specs.declared.End.{End}
+use Rattle.end.specs.declared.FreshEnd.{FreshEnd}
+use Rattle.end.specs.declared.FreshEnd.the-variants.{Refused, Is}
+use Rattle.end.specs.declared.Shown.{Shown}
+use Rattle.end.specs.declared.Shown.the-variants.{Nothing, Frame, Events}
 use Rattle.link.specs.declared.Outcome.{Outcome}
 use Rattle.packing.specs.Octets.{packedIn}
 use Rattle.oam.specs.Outcomes.{Showing}

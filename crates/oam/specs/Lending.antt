@@ -4,9 +4,9 @@ use mathlib.Core.List.{List}
 use mathlib.Core.Bool.{Bool, true, false, cond}
 use lib.Dec.{eqb}
 use lib.ListN.{length, getD}
-use Rattle.frame.specs.declared.Information.{Information}
-use Rattle.frame.specs.declared.Held.{Held}
-use Rattle.frame.specs.declared.Held.the-variants.{Nothing, Is}
+use Rattle.body.specs.declared.Information.{Information}
+use Rattle.body.specs.declared.Held.{Held}
+use Rattle.body.specs.declared.Held.the-variants.{Nothing, Is}
 use Rattle.writer.specs.Octets.{fit}
 use Rattle.writer.specs.Encode.{informationWidths}
 

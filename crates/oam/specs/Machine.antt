@@ -7,19 +7,19 @@ use mathlib.Core.Bool.{Bool, cond, true, false}
 use lib.Dec.{ltb, leb, eqb}
 use lib.ListN.{length}
 use lib.Seq.{sets}
-use Rattle.end.specs.Standing.{placeOf}
-use Rattle.end.specs.declared.Settings.{Settings}
-use Rattle.link.specs.declared.End.{End}
-use Rattle.link.specs.declared.FreshEnd.{FreshEnd}
-use Rattle.link.specs.declared.FreshEnd.the-variants.{Refused, Is}
-use Rattle.link.specs.declared.Report.{Report}
-use Rattle.link.specs.declared.Report.the-variants.{LinkUp, LinkDown, DyingGasp, CriticalEvent}
-use Rattle.link.specs.declared.Shown.{Shown as Heard}
-use Rattle.link.specs.declared.Shown.the-variants.{Nothing, Frame, Events}
+use Rattle.discovery.specs.Standing.{placeOf}
+use Rattle.peer.specs.declared.Settings.{Settings}
+use Rattle.end.specs.declared.End.{End}
+use Rattle.end.specs.declared.FreshEnd.{FreshEnd}
+use Rattle.end.specs.declared.FreshEnd.the-variants.{Refused, Is}
+use Rattle.end.specs.declared.Report.{Report}
+use Rattle.end.specs.declared.Report.the-variants.{LinkUp, LinkDown, DyingGasp, CriticalEvent}
+use Rattle.end.specs.declared.Shown.{Shown as Heard}
+use Rattle.end.specs.declared.Shown.the-variants.{Nothing, Frame, Events}
 use Rattle.link.specs.declared.Outcome.{Outcome}
-use Rattle.link.specs.State.{freshOf, discoveryOf}
+use Rattle.end.specs.State.{freshOf, discoveryOf}
 use Rattle.link.specs.Requests.{Asked, requestOf, requestOutput}
-use Rattle.link.specs.Numbers.{numbersOf}
+use Rattle.packing.specs.Numbers.{numbersOf}
 use Rattle.packing.specs.Octets.{packedIn, unpacked}
 use Rattle.oam.specs.Outcomes.{Shown, shows, roomy}
 use Rattle.oam.specs.Reading.{headerShown}

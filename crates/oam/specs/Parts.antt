@@ -2,20 +2,20 @@
 -- the part's kind; and as numbers the octet after it, then what the part says.
 use Prim.Native.Nat.{ℕ, _-_}
 use mathlib.Core.List.{List, [], _∷_}
-use Rattle.frame.specs.Information.{informationStep}
-use Rattle.frame.specs.Events.{eventStep}
-use Rattle.frame.specs.Variables.{descriptorStep, containerStep}
+use Rattle.body.specs.Information.{informationStep}
+use Rattle.body.specs.Events.{eventStep}
+use Rattle.body.specs.Variables.{descriptorStep, containerStep}
 use Rattle.frame.specs.Frame.{decode, readingOf}
 use Rattle.frame.specs.declared.Reading.{Reading}
 use Rattle.frame.specs.declared.Reading.the-variants.{Refused, Information, Notification, Request, Response, Loopback, Organization}
-use Rattle.frame.specs.declared.InformationStep.{InformationStep}
-use Rattle.frame.specs.declared.InformationStep.the-variants.{End as InformationEnd, Broken as InformationBroken, Skip as InformationSkip, Local, Remote}
-use Rattle.frame.specs.declared.EventStep.{EventStep}
-use Rattle.frame.specs.declared.EventStep.the-variants.{End as EventEnd, Broken as EventBroken, Skip as EventSkip, Has as HasEvent}
-use Rattle.frame.specs.declared.DescriptorStep.{DescriptorStep}
-use Rattle.frame.specs.declared.DescriptorStep.the-variants.{End as DescriptorEnd, Broken as DescriptorBroken, Has as HasDescriptor}
-use Rattle.frame.specs.declared.ContainerStep.{ContainerStep}
-use Rattle.frame.specs.declared.ContainerStep.the-variants.{End as ContainerEnd, Broken as ContainerBroken, Value, Indication}
+use Rattle.body.specs.declared.InformationStep.{InformationStep}
+use Rattle.body.specs.declared.InformationStep.the-variants.{End as InformationEnd, Broken as InformationBroken, Skip as InformationSkip, Local, Remote}
+use Rattle.body.specs.declared.EventStep.{EventStep}
+use Rattle.body.specs.declared.EventStep.the-variants.{End as EventEnd, Broken as EventBroken, Skip as EventSkip, Has as HasEvent}
+use Rattle.body.specs.declared.DescriptorStep.{DescriptorStep}
+use Rattle.body.specs.declared.DescriptorStep.the-variants.{End as DescriptorEnd, Broken as DescriptorBroken, Has as HasDescriptor}
+use Rattle.body.specs.declared.ContainerStep.{ContainerStep}
+use Rattle.body.specs.declared.ContainerStep.the-variants.{End as ContainerEnd, Broken as ContainerBroken, Value, Indication}
 use Rattle.writer.specs.Encode.{informationValues, eventValues}
 use Rattle.oam.specs.Outcomes.{Shown, shows, roomy}
 

@@ -3,10 +3,10 @@ use Prim.Native.Nat.{ℕ}
 use mathlib.Core.Path.{_≡_}
 use mathlib.Core.List.{List}
 use lib.ListN.{length}
-use Rattle.frame.specs.Walk.{walk, met}
-use Rattle.frame.specs.Information.{informationStep, nextOf as informationNext}
-use Rattle.frame.specs.Events.{eventStep, nextOf as eventNext}
-use Rattle.frame.specs.Variables.{descriptorStep, descriptorNext, containerStep, containerNext}
+use Rattle.body.specs.Walk.{walk, met}
+use Rattle.body.specs.Information.{informationStep, nextOf as informationNext}
+use Rattle.body.specs.Events.{eventStep, nextOf as eventNext}
+use Rattle.body.specs.Variables.{descriptorStep, descriptorNext, containerStep, containerNext}
 use Rattle.frame.specs.Frame.{Body, information, notification, request, response, loopback, organization}
 
 -- The parts of a body are those met from octet 18, "or 20 after a sequence number"; a loopback command and organization data

@@ -4,7 +4,7 @@ ghost use Rattle.link.specs.Requests.{starting, stopping, requesting, notifying
 ghost use Rattle.packing.specs.Octets.{unpacked};
 ghost use Rattle.oam.specs.Machine.{Stepping, asking, askingOutput};
 use crate::machine::conclude;
-use link::FreshEnd;
+use end::FreshEnd;
 
 // Starts a remote loopback.
 #[no_mangle]

@@ -6,8 +6,8 @@ ghost use lib.ListN.{length};
 ghost use Rattle.writer.specs.Octets.{fit};
 ghost use Rattle.writer.specs.Encode.{informationWidths};
 ghost use Rattle.oam.specs.Lending.{lends, informationFrom, heldFrom};
-use frame::Held;
-use frame::Information;
+use body::Held;
+use body::Information;
 
 // The width in octets of each field of an Information TLV: version, revision, state, configuration, OAMPDU
 // configuration, OUI, vendor.

@@ -11,12 +11,12 @@ ghost use Rattle.oam.specs.Outcomes.{Showing};
 ghost use Rattle.oam.specs.Machine.{kindOf, steppedNumber, steppedState, Stepping, settingsOf, freshFor, Freshly, reportFrom, foundFor, heardShown, roomyEnd, Receiving, endNumbers, endShown};
 use crate::outcomes::show;
 use crate::reading::show_header;
-use end::Settings;
-use link::End;
-use link::FreshEnd;
+use end::End;
+use end::FreshEnd;
+use end::Report;
+use end::Shown;
 use link::Outcome;
-use link::Report;
-use link::Shown;
+use peer::Settings;
 
 fn kind(shown: Shown) -> u64
     ensures { λ r. ⌜ r ≡ kindOf shown ⌝ }
@@ -75,7 +75,7 @@ pub extern "C" fn oam_fresh(
         source: source,
         required: required,
     };
-    match link::fresh(settings) {
+    match end::fresh(settings) {
         FreshEnd::Refused(answer) => answer as u64,
         FreshEnd::Is(e) => {
             packing::pack(e, state);
@@ -165,9 +165,9 @@ fn show_end(lent: &mut [u64], e: End) -> u64
     requires { ⌜ 28 ≤ length (now lent) ⌝ }
     ensures { λ r. ⌜ Showing (endNumbers e) (now (lent .entry)) r (now (lent .exit)) ⌝ }
 {
-    let numbers = link::numbers_of(e);
+    let numbers = packing::numbers_of(e);
     let answer = show(lent, 0, &numbers);
-    lent[27] = link::discovery(e).number() as u64;
+    lent[27] = end::discovery(e).number() as u64;
     answer
 }
 

@@ -2,19 +2,19 @@
 ghost use mathlib.Core.List.{[], _∷_};
 ghost use Prim.Native.Nat.{_≤_};
 ghost use lib.ListN.{length};
-ghost use Rattle.frame.specs.Information.{informationStep};
-ghost use Rattle.frame.specs.Events.{eventStep};
-ghost use Rattle.frame.specs.Variables.{descriptorStep, containerStep};
+ghost use Rattle.body.specs.Information.{informationStep};
+ghost use Rattle.body.specs.Events.{eventStep};
+ghost use Rattle.body.specs.Variables.{descriptorStep, containerStep};
 ghost use Rattle.writer.specs.Encode.{informationValues, eventValues};
 ghost use Rattle.oam.specs.Outcomes.{shows, Showing};
 ghost use Rattle.oam.specs.Parts.{informationShown, eventShown, descriptorShown, containerShown, partShown};
 use crate::outcomes::show;
-use frame::ContainerStep;
-use frame::DescriptorStep;
-use frame::Event;
-use frame::EventStep;
-use frame::Information;
-use frame::InformationStep;
+use body::ContainerStep;
+use body::DescriptorStep;
+use body::Event;
+use body::EventStep;
+use body::Information;
+use body::InformationStep;
 use frame::Reading;
 
 // A skipped part: only the octet after it is shown.
@@ -49,7 +49,7 @@ fn show_information(lent: &mut [u64], frame: &[u8], at: usize) -> u64
     requires { ⌜ 8 ≤ length (now lent) ⌝ }
     ensures { λ r. ⌜ Showing (informationShown (informationStep (now (frame .entry)) at)) (now (lent .entry)) r (now (lent .exit)) ⌝ }
 {
-    match frame::information_step(frame, at) {
+    match body::information_step(frame, at) {
         InformationStep::End => 1,
         InformationStep::Broken => 2,
         InformationStep::Skip(next) => show_next(lent, next),
@@ -81,7 +81,7 @@ fn show_event(lent: &mut [u64], frame: &[u8], at: usize) -> u64
     requires { ⌜ 8 ≤ length (now lent) ⌝ }
     ensures { λ r. ⌜ Showing (eventShown (eventStep (now (frame .entry)) at)) (now (lent .entry)) r (now (lent .exit)) ⌝ }
 {
-    match frame::event_step(frame, at) {
+    match body::event_step(frame, at) {
         EventStep::End => 1,
         EventStep::Broken => 2,
         EventStep::Skip(next) => show_next(lent, next),
@@ -94,7 +94,7 @@ fn show_descriptor(lent: &mut [u64], frame: &[u8], at: usize) -> u64
     requires { ⌜ 8 ≤ length (now lent) ⌝ }
     ensures { λ r. ⌜ Showing (descriptorShown (descriptorStep (now (frame .entry)) at)) (now (lent .entry)) r (now (lent .exit)) ⌝ }
 {
-    match frame::descriptor_step(frame, at) {
+    match body::descriptor_step(frame, at) {
         DescriptorStep::End => 1,
         DescriptorStep::Broken => 2,
         DescriptorStep::Has(descriptor, next) => {
@@ -109,7 +109,7 @@ fn show_container(lent: &mut [u64], frame: &[u8], at: usize) -> u64
     requires { ⌜ 8 ≤ length (now lent) ⌝ }
     ensures { λ r. ⌜ Showing (containerShown (containerStep (now (frame .entry)) at)) (now (lent .entry)) r (now (lent .exit)) ⌝ }
 {
-    match frame::container_step(frame, at) {
+    match body::container_step(frame, at) {
         ContainerStep::End => 1,
         ContainerStep::Broken => 2,
         ContainerStep::Value(descriptor, width, next) => {

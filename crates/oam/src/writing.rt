@@ -7,7 +7,7 @@ ghost use Rattle.oam.specs.Writing.{Outcome};
 use crate::lending::held_of;
 use crate::lending::is_lent;
 use crate::outcomes::outcome;
-use frame::Found;
+use body::Found;
 
 // Writes an Information frame. A TLV is lent as its seven fields in order, or as no number where there is none; numbers
 // that are neither are 10.

@@ -8,19 +8,19 @@ use borrow.Author.Tests.{eqb-true, eq-eqb}
 use lib.Dec.{eqb}
 use lib.ListN.{length, take, drop, drop-of-length-le}
 use lib.Seq.{sets, sets-eq}
-use Rattle.frame.specs.Octets.{total}
-use Rattle.frame.specs.Events.{fieldsAt}
-use Rattle.frame.proofs.Walks.{by-cond}
-use Rattle.frame.proofs.Numbers.{Octets}
+use Rattle.body.specs.Octets.{total}
+use Rattle.body.specs.Events.{fieldsAt}
+use Rattle.body.proofs.Walks.{by-cond}
+use Rattle.body.proofs.Numbers.{Octets}
 use Rattle.writer.specs.Octets.{octs}
 use Rattle.writer.proofs.Lengths.{length-octs}
 use Rattle.writer.proofs.Numbers.{fields-read, fields-again}
-use Rattle.link.specs.declared.End.{End}
-use Rattle.link.specs.declared.FreshEnd.{FreshEnd}
-use Rattle.link.specs.declared.FreshEnd.the-variants.{Refused, Is}
-use Rattle.link.specs.Ranges.{ranged}
-use Rattle.link.specs.Numbers.{numbersOf, numberWidths, endFrom}
-use Rattle.link.proofs.Numbering.{numbers-fit, numbers-back, numbers-only}
+use Rattle.end.specs.declared.End.{End}
+use Rattle.end.specs.declared.FreshEnd.{FreshEnd}
+use Rattle.end.specs.declared.FreshEnd.the-variants.{Refused, Is}
+use Rattle.end.specs.Ranges.{ranged}
+use Rattle.packing.specs.Numbers.{numbersOf, numberWidths, endFrom}
+use Rattle.packing.proofs.Numbering.{numbers-fit, numbers-back, numbers-only}
 use Rattle.packing.proofs.Widths.{widths-long, widths-total}
 use Rattle.packing.specs.Octets.{packed, packedIn, unpacked}
 

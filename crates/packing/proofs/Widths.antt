@@ -2,9 +2,9 @@
 use Prim.Native.Nat.{ℕ, _≤_}
 use mathlib.Core.Path.{_≡_, refl}
 use lib.ListN.{length, getD}
-use Rattle.frame.specs.Octets.{total}
-use Rattle.frame.proofs.Rows.{narrow-at}
-use Rattle.link.specs.Numbers.{numberWidths}
+use Rattle.body.specs.Octets.{total}
+use Rattle.body.proofs.Rows.{narrow-at}
+use Rattle.packing.specs.Numbers.{numberWidths}
 
 pub widths-long : length numberWidths ≡ 27
 unfolding numberWidths

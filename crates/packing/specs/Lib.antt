@@ -1,2 +1,3 @@
 -- What the promises of packing cite.
+pub mod Numbers
 pub mod Octets

@@ -4,12 +4,12 @@ use mathlib.Core.List.{List}
 use mathlib.Core.Bool.{cond}
 use lib.Dec.{eqb}
 use lib.ListN.{length}
-use Rattle.frame.specs.Events.{fieldsAt}
+use Rattle.body.specs.Events.{fieldsAt}
 use Rattle.writer.specs.Octets.{octs}
-use Rattle.link.specs.declared.End.{End}
-use Rattle.link.specs.declared.FreshEnd.{FreshEnd}
-use Rattle.link.specs.declared.FreshEnd.the-variants.{Refused}
-use Rattle.link.specs.Numbers.{numbersOf, numberWidths, endFrom}
+use Rattle.end.specs.declared.End.{End}
+use Rattle.end.specs.declared.FreshEnd.{FreshEnd}
+use Rattle.end.specs.declared.FreshEnd.the-variants.{Refused}
+use Rattle.packing.specs.Numbers.{numbersOf, numberWidths, endFrom}
 
 unfoldable pub packed : End → List ℕ
 packed e = octs numberWidths (numbersOf e)

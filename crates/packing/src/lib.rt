@@ -2,16 +2,20 @@
 //
 // Its numbers stand one after another, each in its own width, the first octet first. The octets of an end that keeps to its
 // ranges are unpacked to it, and no other octets are (`proofs/Packing.antt`).
+mod numbers;
+
 ghost use mathlib.Core.Path.{_≡_};
 ghost use Prim.Native.Nat.{_≤_};
 ghost use lib.ListN.{length};
 ghost use lib.Seq.{sets};
-ghost use Rattle.frame.specs.Events.{fieldsAt};
+ghost use Rattle.body.specs.Events.{fieldsAt};
 ghost use Rattle.writer.specs.Octets.{octs};
-ghost use Rattle.link.specs.Numbers.{numberWidths};
+ghost use Rattle.packing.specs.Numbers.{numberWidths};
 ghost use Rattle.packing.specs.Octets.{packedIn, unpacked};
-use link::End;
-use link::FreshEnd;
+use end::End;
+use end::FreshEnd;
+pub use numbers::end_from;
+pub use numbers::numbers_of;
 
 // The octets that each number of an end takes.
 const WIDTHS: [usize; 27] = [
@@ -54,7 +58,7 @@ fn numbers_in(state: &[u8]) -> [u64; 27]
     let mut i: usize = 0;
     while i < 27 {
         let width = widths[i];
-        numbers[i] = frame::number_at(state, position, width);
+        numbers[i] = body::number_at(state, position, width);
         position += width;
         i += 1;
     }
@@ -83,7 +87,7 @@ pub fn unpack(state: &[u8]) -> FreshEnd
     if state.len() != 48 {
         return FreshEnd::Refused(10);
     }
-    link::end_from(numbers_in(state))
+    end_from(numbers_in(state))
 }
 
 // Stores an end in the 48 octets of a state; in any other nothing is stored.
@@ -93,5 +97,5 @@ pub fn pack(e: End, state: &mut [u8])
     if state.len() != 48 {
         return;
     }
-    put_numbers(link::numbers_of(e), state);
+    put_numbers(numbers_of(e), state);
 }

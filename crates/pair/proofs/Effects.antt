@@ -5,19 +5,20 @@ use mathlib.Core.Path.{_≡_, refl, sym, ap, _∙_}
 use mathlib.Core.List.{List}
 use mathlib.Core.Bool.{true}
 use Rattle.frame.specs.Frame.{Message, accepted, decode}
-use Rattle.frame.proofs.Walks.{by-cond}
-use Rattle.end.specs.declared.Role.{Role}
-use Rattle.link.specs.declared.End.{End}
-use Rattle.link.specs.declared.Report.{Report}
+use Rattle.body.proofs.Walks.{by-cond}
+use Rattle.loopback.specs.declared.Role.{Role}
+use Rattle.end.specs.declared.End.{End}
+use Rattle.end.specs.declared.Report.{Report}
 use Rattle.link.specs.declared.Outcome.{Outcome}
-use Rattle.link.specs.declared.Shown.{Shown}
-use Rattle.link.specs.declared.hearing.Taken.{Taken}
-use Rattle.link.specs.State.{discoveryOf, inAny}
-use Rattle.link.specs.Sending.{dues, sends, sent, concluded}
-use Rattle.link.specs.Ticks.{ticked}
-use Rattle.link.specs.Reports.{reported}
-use Rattle.link.specs.Hearing.{taken}
-use Rattle.link.specs.Requests.{granted}
+use Rattle.end.specs.declared.Shown.{Shown}
+use Rattle.end.specs.declared.Taken.{Taken}
+use Rattle.end.specs.State.{discoveryOf, inAny}
+use Rattle.end.specs.Sending.{dues, sends, sent}
+use Rattle.link.specs.Outcomes.{concluded}
+use Rattle.end.specs.Ticking.{ticked}
+use Rattle.end.specs.Reporting.{reported}
+use Rattle.end.specs.Taking.{taken}
+use Rattle.end.specs.Granting.{granted}
 use Rattle.reach.specs.Machine.{Request, Input, tick, report, receive, request, Call, askedOf, outcomeOf}
 use Rattle.reach.proofs.Coming.{heardIn, Made, ticks as made-ticks, reports as made-reports, hears as made-hears, noted, Comes, refuses, concludes, grants, comes}
 use Rattle.reach.proofs.Passing.{passes-grant}

@@ -1,8 +1,8 @@
 -- The paper's proved examples, under a single statement.
 use mathlib.Core.Path.{_≡_, refl}
 use mathlib.Core.Bool.{true}
-use Rattle.frame.specs.Variables.{descriptorStep, containerStep}
-use Rattle.link.specs.Ranges.{blank}
+use Rattle.body.specs.Variables.{descriptorStep, containerStep}
+use Rattle.end.specs.Ranges.{blank}
 use Rattle.reach.proofs.Witness.{machine}
 use Rattle.pair.specs.Examples.{rows, allRight}
 

@@ -11,9 +11,9 @@ use lib.Seq.{sets-eq, take-at}
 use Rattle.frame.specs.Frame.{Message, accepted, headerAnswer, decode}
 use Rattle.writer.specs.Encode.{encode}
 use Rattle.writer.proofs.Sizes.{plain-body, encode-length}
-use Rattle.end.specs.Bits.{bit}
-use Rattle.link.specs.declared.End.{End}
-use Rattle.link.specs.State.{inAny}
+use Rattle.peer.specs.Bits.{bit}
+use Rattle.end.specs.declared.End.{End}
+use Rattle.end.specs.State.{inAny}
 use Rattle.reach.specs.Machine.{Call, outcomeOf, meant}
 use Rattle.reach.specs.Runs.{count, wrote}
 use Rattle.reach.proofs.Hearing.{HeardFits, plain-heard}

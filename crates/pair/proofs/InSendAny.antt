@@ -4,15 +4,15 @@ use mathlib.Core.Bool.{Bool, true, false}
 use borrow.Author.Tests.{eqb-true}
 use lib.Dec.{eqb}
 use Rattle.writer.proofs.Bools.{never}
-use Rattle.end.specs.Bits.{bit}
-use Rattle.end.specs.Peers.{held, satisfied}
-use Rattle.end.specs.Standing.{standsAt, isAny}
-use Rattle.end.specs.declared.Discovery.{Discovery}
-use Rattle.end.specs.declared.Discovery.the-variants.{Fault, ActiveSendLocal, PassiveWait, SendLocalRemote, SendLocalRemoteOk, SendAny}
-use Rattle.end.specs.declared.Role.the-variants.{Looping}
-use Rattle.link.specs.declared.End.{End}
-use Rattle.link.specs.State.{discoveryOf, inAny}
-use Rattle.link.specs.Ranges.{idle}
+use Rattle.peer.specs.Bits.{bit}
+use Rattle.peer.specs.Peers.{held, satisfied}
+use Rattle.discovery.specs.Standing.{standsAt, isAny}
+use Rattle.discovery.specs.declared.Discovery.{Discovery}
+use Rattle.discovery.specs.declared.Discovery.the-variants.{Fault, ActiveSendLocal, PassiveWait, SendLocalRemote, SendLocalRemoteOk, SendAny}
+use Rattle.loopback.specs.declared.Role.the-variants.{Looping}
+use Rattle.end.specs.declared.End.{End}
+use Rattle.end.specs.State.{discoveryOf, inAny}
+use Rattle.end.specs.Ranges.{idle}
 use Rattle.reach.proofs.Bools.{not-both, whether}
 use Rattle.reach.proofs.Standing.{Ranged}
 

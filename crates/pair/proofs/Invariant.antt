@@ -4,9 +4,9 @@ use mathlib.Core.Path.{_≡_, refl, ap, _∙_}
 use mathlib.Core.List.{List, _∷_}
 use mathlib.Core.Bool.{true, false}
 use Rattle.frame.specs.Frame.{Message, accepted, decode}
-use Rattle.end.specs.declared.Discovery.the-variants.{SendAny}
-use Rattle.end.specs.declared.Role.the-variants.{Looping}
-use Rattle.link.specs.declared.End.{End}
+use Rattle.discovery.specs.declared.Discovery.the-variants.{SendAny}
+use Rattle.loopback.specs.declared.Role.the-variants.{Looping}
+use Rattle.end.specs.declared.End.{End}
 use Rattle.reach.proofs.Bools.{not-both}
 use Rattle.reach.proofs.Hearing.{HeardFits}
 use Rattle.reach.proofs.Standing.{Ranged}

@@ -4,7 +4,7 @@ use mathlib.Core.Path.{_≡_, refl}
 use mathlib.Core.List.{List, _∷_}
 use mathlib.Core.Bool.{Bool, true, false, _&&_}
 use lib.Dec.{eqb}
-use Rattle.link.specs.declared.End.{End}
+use Rattle.end.specs.declared.End.{End}
 use Rattle.reach.specs.Machine.{Input, tick, report, receive, request, Call, outcomeOf}
 use Rattle.reach.specs.Runs.{count, isTick, acceptedTick}
 use Rattle.reach.proofs.Keeping.{InputFits}

@@ -6,25 +6,25 @@ use mathlib.Core.Logic.{_⊎_, inl, inr, ⊎-elim}
 use borrow.Author.Tests.{eqb-true}
 use lib.Dec.{leb, eqb}
 use Rattle.frame.specs.Frame.{Body, information, notification, request, response, loopback, organization, Message}
-use Rattle.frame.specs.declared.Held.{Held}
-use Rattle.frame.specs.declared.Held.the-variants.{Nothing, Is}
-use Rattle.frame.proofs.Walks.{by-cond}
+use Rattle.body.specs.declared.Held.{Held}
+use Rattle.body.specs.declared.Held.the-variants.{Nothing, Is}
+use Rattle.body.proofs.Walks.{by-cond}
 use Rattle.writer.proofs.Bools.{never, and-l}
-use Rattle.end.specs.Bits.{bit}
-use Rattle.end.specs.Loopback.{isLooping, answering, answered, mayStart}
-use Rattle.end.specs.Standing.{roleIn}
-use Rattle.end.specs.declared.Discovery.{Discovery}
-use Rattle.end.specs.declared.Discovery.the-variants.{Fault, ActiveSendLocal, PassiveWait, SendLocalRemote, SendLocalRemoteOk, SendAny}
-use Rattle.end.specs.declared.Role.{Role}
-use Rattle.end.specs.declared.Role.the-variants.{Idle, Asking, Holding, Ending, Looping}
-use Rattle.link.specs.declared.End.{End}
-use Rattle.link.specs.declared.Report.{Report}
-use Rattle.link.specs.declared.Report.the-variants.{LinkUp, LinkDown, DyingGasp, CriticalEvent}
-use Rattle.link.specs.declared.hearing.Heard.{Heard}
-use Rattle.link.specs.State.{discoveryOf, inAny, faulted, settled}
-use Rattle.link.specs.Ticks.{missed, ticked}
-use Rattle.link.specs.Reports.{linkUp, linkDown, reported}
-use Rattle.link.specs.Hearing.{learned, obeyed, roleAfter, acted, taken}
+use Rattle.peer.specs.Bits.{bit}
+use Rattle.loopback.specs.Loopback.{isLooping, answering, answered, mayStart}
+use Rattle.discovery.specs.Standing.{roleIn}
+use Rattle.discovery.specs.declared.Discovery.{Discovery}
+use Rattle.discovery.specs.declared.Discovery.the-variants.{Fault, ActiveSendLocal, PassiveWait, SendLocalRemote, SendLocalRemoteOk, SendAny}
+use Rattle.loopback.specs.declared.Role.{Role}
+use Rattle.loopback.specs.declared.Role.the-variants.{Idle, Asking, Holding, Ending, Looping}
+use Rattle.end.specs.declared.End.{End}
+use Rattle.end.specs.declared.Report.{Report}
+use Rattle.end.specs.declared.Report.the-variants.{LinkUp, LinkDown, DyingGasp, CriticalEvent}
+use Rattle.end.specs.declared.Heard.{Heard}
+use Rattle.end.specs.State.{discoveryOf, inAny, faulted, settled}
+use Rattle.end.specs.Ticking.{missed, ticked}
+use Rattle.end.specs.Reporting.{linkUp, linkDown, reported}
+use Rattle.end.specs.Taking.{learned, obeyed, roleAfter, acted, taken}
 use Rattle.reach.specs.Machine.{Request, start, stop, variables, notify, tell, Input, askedOf, bodyBy}
 use Rattle.reach.proofs.Bools.{not-both}
 use Rattle.reach.proofs.Coming.{localIn, actionIn, heardIn}

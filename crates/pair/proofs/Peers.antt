@@ -8,18 +8,18 @@ use native.Mathlib.Omega.{arith}
 use lib.Dec.{leb, eqb}
 use Rattle.frame.specs.Flags.{flagsOf}
 use Rattle.frame.specs.Frame.{Message}
-use Rattle.frame.proofs.Walks.{by-cond}
+use Rattle.body.proofs.Walks.{by-cond}
 use Rattle.writer.proofs.Bools.{never, and-l, and-r}
-use Rattle.end.specs.Peers.{held, keptFrom}
-use Rattle.link.specs.declared.Peer.{Peer}
-use Rattle.link.specs.declared.End.{End}
-use Rattle.link.specs.declared.Report.{Report}
-use Rattle.link.specs.declared.Report.the-variants.{LinkUp, LinkDown, DyingGasp, CriticalEvent}
-use Rattle.link.specs.State.{faulted, settled}
-use Rattle.link.specs.Ticks.{missed, ticked}
-use Rattle.link.specs.Reports.{linkUp, linkDown, reported}
-use Rattle.link.specs.Hearing.{learned, acted, taken}
-use Rattle.link.specs.Ranges.{never as unheard, blank}
+use Rattle.peer.specs.Peers.{held, keptFrom}
+use Rattle.end.specs.declared.Peer.{Peer}
+use Rattle.end.specs.declared.End.{End}
+use Rattle.end.specs.declared.Report.{Report}
+use Rattle.end.specs.declared.Report.the-variants.{LinkUp, LinkDown, DyingGasp, CriticalEvent}
+use Rattle.end.specs.State.{faulted, settled}
+use Rattle.end.specs.Ticking.{missed, ticked}
+use Rattle.end.specs.Reporting.{linkUp, linkDown, reported}
+use Rattle.end.specs.Taking.{learned, acted, taken}
+use Rattle.end.specs.Ranges.{never as unheard, blank}
 use Rattle.reach.specs.Machine.{Request, start, stop, variables, notify, tell, Input, askedOf}
 use Rattle.reach.proofs.Coming.{heardIn}
 use Rattle.reach.proofs.Keeping.{by-taken}

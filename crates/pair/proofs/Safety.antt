@@ -7,11 +7,11 @@ use mathlib.Core.Bool.{true}
 use native.Mathlib.Omega.{arith}
 use borrow.Author.Tests.{eqb-true}
 use lib.Dec.{eqb}
-use Rattle.frame.proofs.Walks.{by-cond}
+use Rattle.body.proofs.Walks.{by-cond}
 use Rattle.writer.proofs.Bools.{never}
-use Rattle.end.specs.declared.Settings.{Settings}
-use Rattle.end.specs.declared.Role.the-variants.{Looping}
-use Rattle.link.specs.State.{freshEnd}
+use Rattle.peer.specs.declared.Settings.{Settings}
+use Rattle.loopback.specs.declared.Role.the-variants.{Looping}
+use Rattle.end.specs.State.{freshEnd}
 use Rattle.reach.specs.Machine.{tick, report, receive, request, Call, outcomeOf}
 use Rattle.reach.proofs.Standing.{Accepted, fresh-is}
 use Rattle.pair.specs.Lists.{Some, here, there, none-left, also}

@@ -5,11 +5,11 @@ use mathlib.Core.Path.{_≡_, refl, sym, ap, _∙_, subst}
 use mathlib.Core.List.{List, [], _∷_}
 use mathlib.Core.Logic.{⊎-elim}
 use Rattle.frame.specs.Frame.{Message, decode}
-use Rattle.end.specs.Peers.{held}
-use Rattle.end.specs.declared.Discovery.the-variants.{SendAny}
-use Rattle.end.specs.declared.Role.the-variants.{Looping}
-use Rattle.link.specs.declared.End.{End}
-use Rattle.link.specs.State.{discoveryOf}
+use Rattle.peer.specs.Peers.{held}
+use Rattle.discovery.specs.declared.Discovery.the-variants.{SendAny}
+use Rattle.loopback.specs.declared.Role.the-variants.{Looping}
+use Rattle.end.specs.declared.End.{End}
+use Rattle.end.specs.State.{discoveryOf}
 use Rattle.reach.specs.Machine.{Input, tick, report, receive, request, Call, outcomeOf}
 use Rattle.reach.proofs.Keeping.{InputFits}
 use Rattle.reach.proofs.Standing.{Ranged}

@@ -5,10 +5,10 @@ use mathlib.Core.Path.{_≡_, refl}
 use mathlib.Core.List.{List, [], _∷_, _++_}
 use native.Mathlib.Omega.{arith}
 use lib.ListN.{replicate}
-use Rattle.end.specs.declared.Settings.{Settings}
-use Rattle.end.specs.declared.Role.{Role}
-use Rattle.end.specs.declared.Role.the-variants.{Idle, Asking, Looping}
-use Rattle.link.specs.declared.Report.the-variants.{LinkUp}
+use Rattle.peer.specs.declared.Settings.{Settings}
+use Rattle.loopback.specs.declared.Role.{Role}
+use Rattle.loopback.specs.declared.Role.the-variants.{Idle, Asking, Looping}
+use Rattle.end.specs.declared.Report.the-variants.{LinkUp}
 use Rattle.reach.specs.Machine.{start, stop}
 use Rattle.reach.proofs.Standing.{Accepted}
 use Rattle.reach.proofs.Witness.{machine}

@@ -6,19 +6,19 @@ use mathlib.Core.List.{List, [], _∷_, _++_}
 use mathlib.Core.Bool.{Bool, true, false, _&&_}
 use lib.Dec.{eqb}
 use lib.ListN.{length, replicate}
-use Rattle.frame.specs.Flags.{bitOf}
+use Rattle.body.specs.Octets.{bitOf}
 use Rattle.frame.specs.Frame.{decode, readingOf}
-use Rattle.frame.specs.Variables.{containerStep}
-use Rattle.frame.specs.declared.ContainerStep.{ContainerStep}
-use Rattle.frame.specs.declared.ContainerStep.the-variants.{End as NoMore, Broken, Value, Indication}
-use Rattle.frame.specs.declared.Held.the-variants.{Is}
+use Rattle.body.specs.Variables.{containerStep}
+use Rattle.body.specs.declared.ContainerStep.{ContainerStep}
+use Rattle.body.specs.declared.ContainerStep.the-variants.{End as NoMore, Broken, Value, Indication}
+use Rattle.body.specs.declared.Held.the-variants.{Is}
 use Rattle.frame.specs.declared.Reading.{Reading}
 use Rattle.frame.specs.declared.Reading.the-variants.{Refused, Information as InformationIs, Notification, Request, Response, Loopback, Organization}
-use Rattle.end.specs.declared.Role.the-variants.{Idle}
-use Rattle.link.specs.declared.End.{End}
-use Rattle.link.specs.declared.Last.the-variants.{Never}
+use Rattle.loopback.specs.declared.Role.the-variants.{Idle}
+use Rattle.end.specs.declared.End.{End}
+use Rattle.end.specs.declared.Last.the-variants.{Never}
 use Rattle.link.specs.declared.Outcome.{Outcome}
-use Rattle.link.specs.Ranges.{blank}
+use Rattle.end.specs.Ranges.{blank}
 use Rattle.reach.specs.Machine.{Input, tick, request, start, outcomeOf}
 
 -- ---- frames that are read

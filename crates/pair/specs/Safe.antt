@@ -6,9 +6,9 @@ use mathlib.Core.Bool.{Bool, true, cond, _&&_}
 use lib.Dec.{eqb}
 use Rattle.frame.specs.Flags.{flagsOf}
 use Rattle.frame.specs.Frame.{Message, loopback, accepted, decode}
-use Rattle.end.specs.declared.Discovery.the-variants.{SendAny}
-use Rattle.end.specs.declared.Role.the-variants.{Looping}
-use Rattle.link.specs.State.{discoveryOf}
+use Rattle.discovery.specs.declared.Discovery.the-variants.{SendAny}
+use Rattle.loopback.specs.declared.Role.the-variants.{Looping}
+use Rattle.end.specs.State.{discoveryOf}
 use Rattle.reach.specs.Machine.{Input, tick, report, receive, request}
 use Rattle.pair.specs.Lists.{Some, All}
 use Rattle.pair.specs.System.{Side, other, same, Moment, World}

@@ -5,12 +5,12 @@ use mathlib.Core.List.{List, [], _∷_}
 use mathlib.Core.Bool.{Bool, true, false, cond}
 use lib.Dec.{eqb}
 use lib.ListN.{take}
-use Rattle.end.specs.Bits.{bit}
-use Rattle.end.specs.declared.Settings.{Settings}
-use Rattle.end.specs.declared.Discovery.{Discovery}
-use Rattle.link.specs.declared.End.{End}
-use Rattle.link.specs.declared.Report.{Report}
-use Rattle.link.specs.State.{freshEnd, discoveryOf}
+use Rattle.peer.specs.Bits.{bit}
+use Rattle.peer.specs.declared.Settings.{Settings}
+use Rattle.discovery.specs.declared.Discovery.{Discovery}
+use Rattle.end.specs.declared.End.{End}
+use Rattle.end.specs.declared.Report.{Report}
+use Rattle.end.specs.State.{freshEnd, discoveryOf}
 use Rattle.reach.specs.Machine.{Request, Input, tick, report, receive, request, Call, outcomeOf, outputOf}
 
 pub data Side : Type 0 where

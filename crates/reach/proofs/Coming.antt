@@ -9,27 +9,32 @@ use native.Mathlib.Omega.{arith}
 use borrow.Author.Tests.{ltb-false, eqb-true, eqb-false}
 use lib.ListN.{length}
 use lib.Dec.{ltb, eqb}
-use Rattle.frame.specs.Information.{nothing, keepAll}
+use Rattle.body.specs.Information.{nothing, keepAll}
 use Rattle.frame.specs.Frame.{Body, information, notification, request, response, loopback, organization, Message, codeOf, Answer, refused, accepted, decode, readingOf}
-use Rattle.frame.specs.declared.Held.{Held}
-use Rattle.frame.specs.declared.Held.the-variants.{Nothing as Silent}
+use Rattle.body.specs.declared.Held.{Held}
+use Rattle.body.specs.declared.Held.the-variants.{Nothing as Silent}
 use Rattle.frame.proofs.Stepping.{refused-number}
 use Rattle.writer.specs.Plain.{sized}
 use Rattle.writer.specs.Writing.{writes, written}
-use Rattle.end.specs.Limit.{closing}
-use Rattle.link.specs.declared.End.{End}
-use Rattle.link.specs.declared.Report.{Report}
-use Rattle.link.specs.declared.Shown.the-variants.{Nothing}
-use Rattle.link.specs.declared.hearing.Action.{Action}
-use Rattle.link.specs.declared.hearing.Action.the-variants.{Inform, Notify, Command, Other}
-use Rattle.link.specs.declared.hearing.Heard.{Heard}
+use Rattle.limit.specs.Limit.{closing}
+use Rattle.end.specs.declared.End.{End}
+use Rattle.end.specs.declared.Report.{Report}
+use Rattle.end.specs.declared.Shown.the-variants.{Nothing}
+use Rattle.end.specs.declared.Action.{Action}
+use Rattle.end.specs.declared.Action.the-variants.{Inform, Notify, Command, Other}
+use Rattle.end.specs.declared.Heard.{Heard}
 use Rattle.link.specs.declared.hearing.Said.the-variants.{Is as SaidIs}
-use Rattle.link.specs.declared.hearing.Taken.{Taken}
-use Rattle.link.specs.Sending.{dues, outcome, lengthOf, concluded, concludedOutput}
-use Rattle.link.specs.Ticks.{ticked, tickedDue, tickOf, tickOutput}
-use Rattle.link.specs.Reports.{reported, reportedDue, reportOf, reportOutput}
-use Rattle.link.specs.Hearing.{heardOf, saidBy, taken, takenDue, concludedHeard, concludedHeardOutput, receiveOf, receiveOutput}
-use Rattle.link.specs.Requests.{answerTo, granted, requestToSend, concludedRequest, concludedRequestOutput, asks, asksOutput}
+use Rattle.end.specs.declared.Taken.{Taken}
+use Rattle.end.specs.Sending.{dues}
+use Rattle.link.specs.Outcomes.{outcome, lengthOf, concluded, concludedOutput}
+use Rattle.end.specs.Ticking.{ticked, tickedDue}
+use Rattle.link.specs.Ticks.{tickOf, tickOutput}
+use Rattle.end.specs.Reporting.{reported, reportedDue}
+use Rattle.link.specs.Reports.{reportOf, reportOutput}
+use Rattle.end.specs.Taking.{heardOf, taken, takenDue}
+use Rattle.link.specs.Hearing.{saidBy, concludedHeard, concludedHeardOutput, receiveOf, receiveOutput}
+use Rattle.end.specs.Granting.{answerTo, granted}
+use Rattle.link.specs.Requests.{requestToSend, concludedRequest, concludedRequestOutput, asks, asksOutput}
 use Rattle.reach.specs.Machine.{Request, Input, tick, report, receive, request as asking, Call, askedOf, outcomeOf, outputOf}
 use Rattle.reach.proofs.Bools.{whether}
 

@@ -8,17 +8,17 @@ use native.Mathlib.Omega.{arith}
 use borrow.Author.Tests.{leb-true, leb-false, lt-ltb, eq-eqb, ne-eqb}
 use lib.Dec.{leb, eqb}
 use lib.ListN.{length}
-use Rattle.frame.proofs.Walks.{by-cond}
+use Rattle.body.proofs.Walks.{by-cond}
 use Rattle.writer.proofs.Sizes.{encode-length}
-use Rattle.end.specs.Limit.{chargedMeter, closing, turnedMeter}
-use Rattle.end.specs.declared.Meter.{Meter}
-use Rattle.end.specs.declared.Settings.{Settings}
-use Rattle.link.specs.declared.End.{End}
+use Rattle.limit.specs.Limit.{chargedMeter, closing, turnedMeter}
+use Rattle.limit.specs.declared.Meter.{Meter}
+use Rattle.peer.specs.declared.Settings.{Settings}
+use Rattle.end.specs.declared.End.{End}
 use Rattle.link.specs.declared.Outcome.{Outcome}
-use Rattle.link.specs.State.{freshEnd}
-use Rattle.link.specs.Sending.{dues, sends, sent}
-use Rattle.link.specs.Requests.{granted}
-use Rattle.link.specs.Ranges.{ranged}
+use Rattle.end.specs.State.{freshEnd}
+use Rattle.end.specs.Sending.{dues, sends, sent}
+use Rattle.end.specs.Granting.{granted}
+use Rattle.end.specs.Ranges.{ranged}
 use Rattle.reach.specs.Machine.{Input, tick, report, receive, request, Call, outcomeOf, meant}
 use Rattle.reach.specs.Runs.{after, count, wrote, isTick, acceptedTick, ticksIn, framesIn}
 use Rattle.reach.proofs.Bools.{whether}

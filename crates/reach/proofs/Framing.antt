@@ -15,13 +15,15 @@ use Rattle.writer.specs.Plain.{plain, sized}
 use Rattle.writer.specs.Writing.{writes, written, messageOf, partsOf}
 use Rattle.writer.proofs.Sizes.{encode-length}
 use Rattle.writer.proofs.RoundTrip.{read-back}
-use Rattle.link.specs.declared.End.{End}
+use Rattle.end.specs.declared.End.{End}
 use Rattle.link.specs.declared.Outcome.{Outcome}
-use Rattle.link.specs.declared.hearing.Taken.{Taken}
-use Rattle.link.specs.State.{discoveryOf}
-use Rattle.link.specs.Sending.{faultOf, flagsToSend, tlvsToSend, informationToSend, dues, sends, sent, lengthOf, outcome, concluded, concludedOutput}
-use Rattle.link.specs.Requests.{granted, requestToSend}
-use Rattle.link.specs.Ranges.{ranged}
+use Rattle.end.specs.declared.Taken.{Taken}
+use Rattle.end.specs.State.{discoveryOf}
+use Rattle.end.specs.Sending.{faultOf, flagsToSend, tlvsToSend, dues, sends, sent}
+use Rattle.link.specs.Outcomes.{informationToSend, lengthOf, outcome, concluded, concludedOutput}
+use Rattle.end.specs.Granting.{granted}
+use Rattle.link.specs.Requests.{requestToSend}
+use Rattle.end.specs.Ranges.{ranged}
 use Rattle.reach.specs.Machine.{Request, Input, Call, askedOf, outcomeOf, outputOf, bodyBy, meant}
 use Rattle.reach.proofs.Bools.{whether}
 use Rattle.reach.proofs.Coming.{Made, ticks, reports, hears, noted, Concludes, Grants, Comes, refuses, concludes, grants, comes}

@@ -6,23 +6,23 @@ use mathlib.Core.Bool.{true}
 use native.Mathlib.Omega.{arith}
 use borrow.Author.Tests.{eqb-false, ltb-true, lt-ltb}
 use lib.Dec.{ltb, eqb}
-use Rattle.frame.specs.Information.{InformationPart, local, remote, keepAll, nothing}
+use Rattle.body.specs.Information.{InformationPart, local, remote, keepAll, nothing}
 use Rattle.frame.specs.Frame.{Body, information, notification, request, response, loopback, organization, Message, accepted, decode}
-use Rattle.frame.specs.declared.Found.{Found}
-use Rattle.frame.specs.declared.Held.{Held}
-use Rattle.frame.specs.declared.Held.the-variants.{Nothing, Is}
-use Rattle.frame.proofs.Numbers.{Octets}
-use Rattle.frame.proofs.Walks.{by-cond}
+use Rattle.body.specs.declared.Found.{Found}
+use Rattle.body.specs.declared.Held.{Held}
+use Rattle.body.specs.declared.Held.the-variants.{Nothing, Is}
+use Rattle.body.proofs.Numbers.{Octets}
+use Rattle.body.proofs.Walks.{by-cond}
 use Rattle.writer.specs.Plain.{every, plainBody}
 use Rattle.writer.proofs.Bools.{and-l, and-r}
 use Rattle.writer.proofs.Informing.{fitPart, plain-parts}
 use Rattle.writer.proofs.Fitting.{FitsBody, shown-fits}
-use Rattle.end.specs.Peers.{keptFrom, recordFrom}
-use Rattle.link.specs.declared.Last.{Last}
-use Rattle.link.specs.declared.hearing.Action.{Action}
-use Rattle.link.specs.declared.hearing.Action.the-variants.{Inform, Notify, Command, Other}
-use Rattle.link.specs.Hearing.{lastAfter}
-use Rattle.link.specs.Ranges.{heldFits, lastFits}
+use Rattle.peer.specs.Peers.{keptFrom, recordFrom}
+use Rattle.end.specs.declared.Last.{Last}
+use Rattle.end.specs.declared.Action.{Action}
+use Rattle.end.specs.declared.Action.the-variants.{Inform, Notify, Command, Other}
+use Rattle.end.specs.Taking.{lastAfter}
+use Rattle.end.specs.Ranges.{heldFits, lastFits}
 use Rattle.reach.proofs.Coming.{localIn, actionIn}
 
 -- the number of a notification is one of two octets

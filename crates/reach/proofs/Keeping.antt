@@ -6,25 +6,25 @@ use native.Mathlib.Omega.{arith}
 use borrow.Author.Tests.{leb-false}
 use lib.Dec.{leb}
 use Rattle.frame.specs.Frame.{Message, accepted, decode}
-use Rattle.frame.proofs.Numbers.{Octets}
-use Rattle.frame.proofs.Walks.{by-cond}
-use Rattle.end.specs.Standing.{isAny, roleIn}
-use Rattle.end.specs.Limit.{closing, turnedMeter}
-use Rattle.end.specs.declared.Discovery.{Discovery}
-use Rattle.end.specs.declared.Discovery.the-variants.{Fault, ActiveSendLocal, PassiveWait, SendLocalRemote, SendLocalRemoteOk, SendAny}
-use Rattle.end.specs.declared.Role.{Role}
-use Rattle.end.specs.declared.Meter.{Meter}
-use Rattle.link.specs.declared.Link.{Link}
-use Rattle.link.specs.declared.End.{End}
-use Rattle.link.specs.declared.Report.{Report}
-use Rattle.link.specs.declared.Report.the-variants.{LinkUp, LinkDown, DyingGasp, CriticalEvent}
-use Rattle.link.specs.declared.hearing.Heard.{Heard}
-use Rattle.link.specs.declared.hearing.Taken.{Taken}
-use Rattle.link.specs.State.{withLink, noPeer, discoveryOf, inAny, faulted, settled}
-use Rattle.link.specs.Ticks.{missed, ticked}
-use Rattle.link.specs.Reports.{linkUp, linkDown, reported}
-use Rattle.link.specs.Hearing.{learned, acted, takenUp, taken}
-use Rattle.link.specs.Ranges.{heldFits, lastFits, idle, blank}
+use Rattle.body.proofs.Numbers.{Octets}
+use Rattle.body.proofs.Walks.{by-cond}
+use Rattle.discovery.specs.Standing.{isAny, roleIn}
+use Rattle.limit.specs.Limit.{closing, turnedMeter}
+use Rattle.discovery.specs.declared.Discovery.{Discovery}
+use Rattle.discovery.specs.declared.Discovery.the-variants.{Fault, ActiveSendLocal, PassiveWait, SendLocalRemote, SendLocalRemoteOk, SendAny}
+use Rattle.loopback.specs.declared.Role.{Role}
+use Rattle.limit.specs.declared.Meter.{Meter}
+use Rattle.end.specs.declared.Link.{Link}
+use Rattle.end.specs.declared.End.{End}
+use Rattle.end.specs.declared.Report.{Report}
+use Rattle.end.specs.declared.Report.the-variants.{LinkUp, LinkDown, DyingGasp, CriticalEvent}
+use Rattle.end.specs.declared.Heard.{Heard}
+use Rattle.end.specs.declared.Taken.{Taken}
+use Rattle.end.specs.State.{withLink, noPeer, discoveryOf, inAny, faulted, settled}
+use Rattle.end.specs.Ticking.{missed, ticked}
+use Rattle.end.specs.Reporting.{linkUp, linkDown, reported}
+use Rattle.end.specs.Taking.{learned, acted, takenUp, taken}
+use Rattle.end.specs.Ranges.{heldFits, lastFits, idle, blank}
 use Rattle.reach.specs.Machine.{Input, tick, report, receive, request}
 use Rattle.reach.proofs.Bools.{not-both}
 use Rattle.reach.proofs.Coming.{localIn, actionIn, heardIn, Made, ticks, reports, hears}

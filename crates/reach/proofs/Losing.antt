@@ -5,21 +5,23 @@ use mathlib.Core.Path.{_≡_, refl, ap, _∙_}
 use mathlib.Core.Bool.{true, cond}
 use borrow.Author.Tests.{le-ltb, le-leb, lt-leb}
 use lib.Dec.{eqb}
-use Rattle.frame.proofs.Walks.{by-cond}
-use Rattle.end.specs.Bits.{bit}
-use Rattle.end.specs.Peers.{held, satisfied}
-use Rattle.end.specs.Standing.{standsAt, roleIn}
-use Rattle.end.specs.declared.Settings.{Settings}
-use Rattle.end.specs.declared.Discovery.{Discovery}
-use Rattle.end.specs.declared.Discovery.the-variants.{Fault, ActiveSendLocal, PassiveWait, SendLocalRemote, SendLocalRemoteOk, SendAny}
-use Rattle.end.specs.declared.Role.the-variants.{Idle}
-use Rattle.link.specs.declared.Link.{Link}
-use Rattle.link.specs.declared.Peer.{Peer}
-use Rattle.link.specs.declared.End.{End}
+use Rattle.body.proofs.Walks.{by-cond}
+use Rattle.peer.specs.Bits.{bit}
+use Rattle.peer.specs.Peers.{held, satisfied}
+use Rattle.discovery.specs.Standing.{standsAt, roleIn}
+use Rattle.peer.specs.declared.Settings.{Settings}
+use Rattle.discovery.specs.declared.Discovery.{Discovery}
+use Rattle.discovery.specs.declared.Discovery.the-variants.{Fault, ActiveSendLocal, PassiveWait, SendLocalRemote, SendLocalRemoteOk, SendAny}
+use Rattle.loopback.specs.declared.Role.the-variants.{Idle}
+use Rattle.end.specs.declared.Link.{Link}
+use Rattle.end.specs.declared.Peer.{Peer}
+use Rattle.end.specs.declared.End.{End}
 use Rattle.link.specs.declared.Outcome.{Outcome}
-use Rattle.link.specs.State.{noPeer, discoveryOf, faulted, settled}
-use Rattle.link.specs.Sending.{dues, sends, sent, concluded}
-use Rattle.link.specs.Ticks.{missed, ticked, tickedDue, tickOf}
+use Rattle.end.specs.State.{noPeer, discoveryOf, faulted, settled}
+use Rattle.end.specs.Sending.{dues, sends, sent}
+use Rattle.link.specs.Outcomes.{concluded}
+use Rattle.end.specs.Ticking.{missed, ticked, tickedDue}
+use Rattle.link.specs.Ticks.{tickOf}
 
 -- what discovery stands on: the settings, the link, and what is kept of the peer
 pub record Footing : Type 0 where

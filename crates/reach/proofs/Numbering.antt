@@ -7,15 +7,16 @@ use mathlib.Core.Bool.{Bool, true, false, cond, _&&_, and-true, and-false}
 use borrow.Author.Tests.{eq-eqb, ne-eqb}
 use lib.Dec.{eqb}
 use Rattle.frame.specs.Frame.{notification}
-use Rattle.frame.proofs.Walks.{by-cond}
+use Rattle.body.proofs.Walks.{by-cond}
 use Rattle.writer.specs.Writing.{eventsOf}
-use Rattle.end.specs.Roles.{octetOf}
-use Rattle.end.specs.Owing.{following, revised}
-use Rattle.link.specs.declared.End.{End}
+use Rattle.loopback.specs.Roles.{octetOf}
+use Rattle.limit.specs.Owing.{following, revised}
+use Rattle.end.specs.declared.End.{End}
 use Rattle.link.specs.declared.Outcome.{Outcome}
-use Rattle.link.specs.declared.hearing.Taken.{Taken}
-use Rattle.link.specs.Sending.{octetChanged, dues, outcome, sends, sent, concluded}
-use Rattle.link.specs.Requests.{granted}
+use Rattle.end.specs.declared.Taken.{Taken}
+use Rattle.end.specs.Sending.{octetChanged, dues, sends, sent}
+use Rattle.link.specs.Outcomes.{outcome, concluded}
+use Rattle.end.specs.Granting.{granted}
 use Rattle.reach.specs.Machine.{Request, start, stop, variables, notify, tell, Input, tick, report, receive, request, Call, outcomeOf, meant}
 use Rattle.reach.proofs.Coming.{Made, ticks, reports, hears, noted, Concludes, Comes, refuses, concludes, grants, comes}
 use Rattle.reach.proofs.Staying.{Lasting, numberBy, made-stays, asked-stays}

@@ -7,12 +7,12 @@ use borrow.Author.Tests.{ltb-true, leb-true}
 use lib.Dec.{ltb, leb}
 use lib.ListN.{length}
 use Rattle.writer.specs.Plain.{sized}
-use Rattle.end.specs.Asking.{fitsBoth, requestAnswer}
-use Rattle.end.specs.Peers.{peerMaximum}
-use Rattle.end.specs.Limit.{room}
-use Rattle.link.specs.declared.End.{End}
-use Rattle.link.specs.State.{inAny}
-use Rattle.link.specs.Requests.{answerTo}
+use Rattle.limit.specs.Asking.{fitsBoth, requestAnswer}
+use Rattle.peer.specs.Peers.{peerMaximum}
+use Rattle.limit.specs.Limit.{room}
+use Rattle.end.specs.declared.End.{End}
+use Rattle.end.specs.State.{inAny}
+use Rattle.end.specs.Granting.{answerTo}
 use Rattle.reach.specs.Machine.{Call, askedOf}
 use Rattle.reach.proofs.Coming.{Grants}
 

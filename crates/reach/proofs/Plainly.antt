@@ -10,10 +10,10 @@ use lib.ListN.{length}
 use Rattle.frame.specs.Flags.{flagsOf, joined}
 use Rattle.frame.specs.Frame.{Body, information, Message}
 use Rattle.frame.specs.declared.Flags.{Flags}
-use Rattle.frame.specs.declared.Information.{Information}
-use Rattle.frame.specs.declared.Held.{Held}
-use Rattle.frame.specs.declared.Held.the-variants.{Nothing, Is}
-use Rattle.frame.proofs.Numbers.{bit-lt}
+use Rattle.body.specs.declared.Information.{Information}
+use Rattle.body.specs.declared.Held.{Held}
+use Rattle.body.specs.declared.Held.the-variants.{Nothing, Is}
+use Rattle.body.proofs.Numbers.{bit-lt}
 use Rattle.frame.proofs.FlagLaws.{split-join}
 use Rattle.writer.specs.Octets.{fit}
 use Rattle.writer.specs.Encode.{informationWidths, informationValues, encode}
@@ -23,18 +23,19 @@ use Rattle.writer.proofs.Bools.{and-l, and-r}
 use Rattle.writer.proofs.Lengths.{length-encode}
 use Rattle.writer.proofs.Informing.{plain-parts}
 use Rattle.writer.proofs.Sizes.{plain-sized}
-use Rattle.end.specs.Roles.{octetOf}
-use Rattle.end.specs.Ranges.{sound}
-use Rattle.end.specs.Sending.{localField, remoteField, ownInformation, clearedInformation, clearedHeld}
-use Rattle.end.specs.declared.Settings.{Settings}
-use Rattle.end.specs.declared.Role.{Role}
-use Rattle.end.specs.declared.Role.the-variants.{Idle, Asking, Holding, Ending, Looping}
-use Rattle.end.specs.declared.Discovery.{Discovery}
-use Rattle.end.specs.declared.Discovery.the-variants.{Fault, ActiveSendLocal, PassiveWait, SendLocalRemote, SendLocalRemoteOk, SendAny}
-use Rattle.link.specs.declared.End.{End}
-use Rattle.link.specs.State.{discoveryOf}
-use Rattle.link.specs.Sending.{flagsToSend, tlvsToSend, informationToSend}
-use Rattle.link.specs.Ranges.{heldFits}
+use Rattle.loopback.specs.Roles.{octetOf}
+use Rattle.peer.specs.Ranges.{sound}
+use Rattle.discovery.specs.Sending.{localField, remoteField, ownInformation, clearedInformation, clearedHeld}
+use Rattle.peer.specs.declared.Settings.{Settings}
+use Rattle.loopback.specs.declared.Role.{Role}
+use Rattle.loopback.specs.declared.Role.the-variants.{Idle, Asking, Holding, Ending, Looping}
+use Rattle.discovery.specs.declared.Discovery.{Discovery}
+use Rattle.discovery.specs.declared.Discovery.the-variants.{Fault, ActiveSendLocal, PassiveWait, SendLocalRemote, SendLocalRemoteOk, SendAny}
+use Rattle.end.specs.declared.End.{End}
+use Rattle.end.specs.State.{discoveryOf}
+use Rattle.end.specs.Sending.{flagsToSend, tlvsToSend}
+use Rattle.link.specs.Outcomes.{informationToSend}
+use Rattle.end.specs.Ranges.{heldFits}
 use Rattle.reach.proofs.Bools.{whether}
 use Rattle.reach.proofs.Standing.{Accepted, Stands}
 

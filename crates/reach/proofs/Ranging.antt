@@ -9,20 +9,21 @@ use native.Mathlib.Omega.{arith}
 use borrow.Author.Tests.{ltb-true}
 use lib.Dec.{ltb}
 use lib.ListN.{length}
-use Rattle.frame.proofs.Walks.{by-cond}
+use Rattle.body.proofs.Walks.{by-cond}
 use Rattle.writer.proofs.Bools.{never, and-l, and-r}
-use Rattle.end.specs.Limit.{room, chargedMeter}
-use Rattle.end.specs.Owing.{following}
-use Rattle.end.specs.declared.Meter.{Meter}
-use Rattle.end.specs.declared.Settings.{Settings}
-use Rattle.link.specs.declared.End.{End}
-use Rattle.link.specs.declared.Shown.{Shown}
+use Rattle.limit.specs.Limit.{room, chargedMeter}
+use Rattle.limit.specs.Owing.{following}
+use Rattle.limit.specs.declared.Meter.{Meter}
+use Rattle.peer.specs.declared.Settings.{Settings}
+use Rattle.end.specs.declared.End.{End}
+use Rattle.end.specs.declared.Shown.{Shown}
 use Rattle.link.specs.declared.Outcome.{Outcome}
-use Rattle.link.specs.declared.hearing.Taken.{Taken}
-use Rattle.link.specs.State.{discoveryOf, inAny}
-use Rattle.link.specs.Sending.{octetChanged, allowed, faultOf, dues, sends, sent, concluded}
-use Rattle.link.specs.Requests.{granted}
-use Rattle.link.specs.Ranges.{idle, ranged}
+use Rattle.end.specs.declared.Taken.{Taken}
+use Rattle.end.specs.State.{discoveryOf, inAny}
+use Rattle.end.specs.Sending.{octetChanged, allowed, faultOf, dues, sends, sent}
+use Rattle.link.specs.Outcomes.{concluded}
+use Rattle.end.specs.Granting.{granted}
+use Rattle.end.specs.Ranges.{idle, ranged}
 use Rattle.reach.specs.Machine.{Request, start, stop, variables, notify, tell, Input, Call, askedOf, outcomeOf}
 use Rattle.reach.specs.Runs.{after}
 use Rattle.reach.proofs.Bools.{not-both, whether}

@@ -2,12 +2,13 @@
 use mathlib.Core.Path.{_≡_, refl, _∙_}
 use Prim.Native.Nat.{ℕ}
 use lib.ListN.{length}
-use Rattle.frame.proofs.Walks.{by-cond}
-use Rattle.link.specs.declared.End.{End}
-use Rattle.link.specs.declared.Shown.{Shown}
-use Rattle.link.specs.declared.Shown.the-variants.{Nothing}
+use Rattle.body.proofs.Walks.{by-cond}
+use Rattle.end.specs.declared.End.{End}
+use Rattle.end.specs.declared.Shown.{Shown}
+use Rattle.end.specs.declared.Shown.the-variants.{Nothing}
 use Rattle.link.specs.declared.Outcome.{Outcome}
-use Rattle.link.specs.Sending.{outcome, sends, concluded}
+use Rattle.link.specs.Outcomes.{outcome, concluded}
+use Rattle.end.specs.Sending.{sends}
 use Rattle.reach.specs.Machine.{Call, outcomeOf, outputOf}
 use Rattle.reach.proofs.Coming.{noted, Concludes, Comes, refuses, concludes, grants, comes}
 

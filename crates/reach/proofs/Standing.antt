@@ -5,19 +5,19 @@ use mathlib.Core.Bool.{true, false}
 use native.Mathlib.Omega.{arith}
 use borrow.Author.Tests.{ltb-true, leb-true, lt-ltb, le-leb}
 use lib.Dec.{ltb, leb}
-use Rattle.end.specs.Ranges.{sound}
-use Rattle.end.specs.Limit.{bounded}
-use Rattle.end.specs.declared.Settings.{Settings}
-use Rattle.end.specs.declared.Meter.{Meter}
+use Rattle.peer.specs.Ranges.{sound}
+use Rattle.limit.specs.Limit.{bounded}
+use Rattle.peer.specs.declared.Settings.{Settings}
+use Rattle.limit.specs.declared.Meter.{Meter}
 use Rattle.writer.proofs.Bools.{never, and-l, and-r}
-use Rattle.link.specs.declared.Link.{Link}
-use Rattle.link.specs.declared.Peer.{Peer}
-use Rattle.link.specs.declared.End.{End}
-use Rattle.link.specs.declared.FreshEnd.the-variants.{Refused, Is}
-use Rattle.link.specs.State.{freshEnd, freshOf, inAny}
-use Rattle.link.specs.Sending.{allowed}
-use Rattle.link.specs.Ranges.{tests, heldFits, lastFits, idle, blank, ranged}
-use Rattle.link.proofs.Ranging.{all-at}
+use Rattle.end.specs.declared.Link.{Link}
+use Rattle.end.specs.declared.Peer.{Peer}
+use Rattle.end.specs.declared.End.{End}
+use Rattle.end.specs.declared.FreshEnd.the-variants.{Refused, Is}
+use Rattle.end.specs.State.{freshEnd, freshOf, inAny}
+use Rattle.end.specs.Sending.{allowed}
+use Rattle.end.specs.Ranges.{tests, heldFits, lastFits, idle, blank, ranged}
+use Rattle.end.proofs.Ranging.{all-at}
 use Rattle.reach.proofs.Bools.{or-l, or-r, implies, is-or-l, is-or-r, is-implied}
 
 -- ---- the parts

@@ -5,23 +5,24 @@ use mathlib.Core.Path.{_≡_, refl, ap, _∙_}
 use mathlib.Core.List.{List, [], _∷_}
 use mathlib.Core.Bool.{Bool}
 use lib.Dec.{leb}
-use Rattle.frame.proofs.Walks.{by-cond}
-use Rattle.end.specs.Limit.{turnedMeter}
-use Rattle.end.specs.Owing.{following}
-use Rattle.end.specs.declared.Meter.{Meter}
-use Rattle.end.specs.declared.Settings.{Settings}
-use Rattle.link.specs.declared.End.{End}
+use Rattle.body.proofs.Walks.{by-cond}
+use Rattle.limit.specs.Limit.{turnedMeter}
+use Rattle.limit.specs.Owing.{following}
+use Rattle.limit.specs.declared.Meter.{Meter}
+use Rattle.peer.specs.declared.Settings.{Settings}
+use Rattle.end.specs.declared.End.{End}
 use Rattle.link.specs.declared.Outcome.{Outcome}
-use Rattle.link.specs.declared.Report.{Report}
-use Rattle.link.specs.declared.Report.the-variants.{LinkUp, LinkDown, DyingGasp, CriticalEvent}
-use Rattle.link.specs.declared.hearing.Heard.{Heard}
-use Rattle.link.specs.declared.hearing.Taken.{Taken}
-use Rattle.link.specs.State.{freshEnd, faulted, settled}
-use Rattle.link.specs.Sending.{dues, sends, sent, concluded}
-use Rattle.link.specs.Ticks.{missed, ticked}
-use Rattle.link.specs.Reports.{linkUp, linkDown, reported}
-use Rattle.link.specs.Hearing.{learned, acted, taken}
-use Rattle.link.specs.Requests.{granted}
+use Rattle.end.specs.declared.Report.{Report}
+use Rattle.end.specs.declared.Report.the-variants.{LinkUp, LinkDown, DyingGasp, CriticalEvent}
+use Rattle.end.specs.declared.Heard.{Heard}
+use Rattle.end.specs.declared.Taken.{Taken}
+use Rattle.end.specs.State.{freshEnd, faulted, settled}
+use Rattle.end.specs.Sending.{dues, sends, sent}
+use Rattle.link.specs.Outcomes.{concluded}
+use Rattle.end.specs.Ticking.{missed, ticked}
+use Rattle.end.specs.Reporting.{linkUp, linkDown, reported}
+use Rattle.end.specs.Taking.{learned, acted, taken}
+use Rattle.end.specs.Granting.{granted}
 use Rattle.reach.specs.Machine.{Request, start, stop, variables, notify, tell, Input, tick, report, receive, request, Call, askedOf, outcomeOf}
 use Rattle.reach.specs.Runs.{after}
 use Rattle.reach.proofs.Coming.{Made, ticks, reports, hears, noted, Comes, refuses, concludes, grants, comes}

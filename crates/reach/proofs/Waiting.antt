@@ -8,16 +8,17 @@ use borrow.Author.Tests.{ltb-false, lt-ltb, le-ltb}
 use lib.ListN.{length}
 use Rattle.writer.specs.Plain.{sized}
 use Rattle.writer.proofs.Bools.{never}
-use Rattle.end.specs.Asking.{fitsBoth, requestAnswer}
-use Rattle.end.specs.Peers.{peerMaximum}
-use Rattle.end.specs.Limit.{room}
-use Rattle.end.specs.Owing.{owes}
-use Rattle.end.specs.declared.Meter.{Meter}
-use Rattle.link.specs.declared.End.{End}
+use Rattle.limit.specs.Asking.{fitsBoth, requestAnswer}
+use Rattle.peer.specs.Peers.{peerMaximum}
+use Rattle.limit.specs.Limit.{room}
+use Rattle.limit.specs.Owing.{owes}
+use Rattle.limit.specs.declared.Meter.{Meter}
+use Rattle.end.specs.declared.End.{End}
 use Rattle.link.specs.declared.Outcome.{Outcome}
-use Rattle.link.specs.State.{discoveryOf, inAny}
-use Rattle.link.specs.Sending.{faultOf, flagsToSend, allowed, changed, dues, sends, sent}
-use Rattle.link.specs.Requests.{answerTo, concludedRequest, asks}
+use Rattle.end.specs.State.{discoveryOf, inAny}
+use Rattle.end.specs.Sending.{faultOf, flagsToSend, allowed, changed, dues, sends, sent}
+use Rattle.end.specs.Granting.{answerTo}
+use Rattle.link.specs.Requests.{concludedRequest, asks}
 use Rattle.reach.specs.Machine.{Request, request, Input, Call, askedOf, outcomeOf}
 use Rattle.reach.proofs.Bools.{not-both, whether}
 use Rattle.reach.proofs.Coming.{noted, Concludes, Comes, refuses, concludes, grants, comes}

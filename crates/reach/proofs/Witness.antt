@@ -7,30 +7,35 @@ use mathlib.Core.Bool.{true}
 use lib.ListN.{replicate}
 use Rattle.frame.specs.Flags.{joined}
 use Rattle.frame.specs.Frame.{Body, information, loopback, headerAnswer, bodyAnswer, decode}
-use Rattle.frame.specs.Information.{local, informationAt, informationStep, informationWalk}
-use Rattle.frame.specs.Tlvs.{tlvAt, markAt}
-use Rattle.frame.specs.Walk.{walk}
-use Rattle.frame.specs.declared.Information.{Information}
+use Rattle.body.specs.Information.{local, informationAt, informationStep, informationWalk}
+use Rattle.body.specs.Tlvs.{tlvAt, markAt}
+use Rattle.body.specs.Walk.{walk}
+use Rattle.body.specs.declared.Information.{Information}
 use Rattle.writer.specs.Encode.{headerOctets, informationOctets, encode}
 use Rattle.writer.specs.Plain.{plainFlags, plainInformation, plain, sized}
 use Rattle.writer.specs.Writing.{writes, written, messageOf}
-use Rattle.end.specs.Asking.{requestAnswer}
-use Rattle.end.specs.Bits.{bit}
-use Rattle.end.specs.Limit.{room, chargedMeter, closing, turnedMeter}
-use Rattle.end.specs.Loopback.{answered, obeys, mayStart, mayStop}
-use Rattle.end.specs.Peers.{hasAll, satisfies, satisfied, peerActive, peerLoopback, peerMaximum, keptFrom}
-use Rattle.end.specs.Ranges.{sound}
-use Rattle.end.specs.Sending.{remoteField, faultFlag, ownInformation, clearedInformation, clearedHeld}
-use Rattle.end.specs.declared.Settings.{Settings}
-use Rattle.end.specs.declared.Role.the-variants.{Looping}
-use Rattle.end.specs.declared.Discovery.the-variants.{ActiveSendLocal}
-use Rattle.link.specs.declared.Report.the-variants.{LinkUp}
-use Rattle.link.specs.Hearing.{learned, obeysCommand, obeyed, roleAfter, acted, isRepeat, shownEvents, shownOf, takenUp, taken, takenDue, concludedHeard, concludedHeardOutput, receiveOf, receiveOutput}
-use Rattle.link.specs.Reports.{linkUp, linkDown, reportedDue, reportOf, reportOutput}
-use Rattle.link.specs.Requests.{answerTo, granted, requestToSend, concludedRequest, concludedRequestOutput, asks, asksOutput}
-use Rattle.link.specs.Sending.{faultOf, flagsToSend, allowed, tlvsToSend, informationToSend, changed, dues, sends, sent, concluded, concludedOutput}
-use Rattle.link.specs.State.{freshEnd, discoveryOf, inAny, faulted, settled}
-use Rattle.link.specs.Ticks.{missed, ticked, tickedDue, tickOf, tickOutput}
+use Rattle.limit.specs.Asking.{requestAnswer}
+use Rattle.peer.specs.Bits.{bit}
+use Rattle.limit.specs.Limit.{room, chargedMeter, closing, turnedMeter}
+use Rattle.loopback.specs.Loopback.{answered, obeys, mayStart, mayStop}
+use Rattle.peer.specs.Peers.{hasAll, satisfies, satisfied, peerActive, peerLoopback, peerMaximum, keptFrom}
+use Rattle.peer.specs.Ranges.{sound}
+use Rattle.discovery.specs.Sending.{remoteField, faultFlag, ownInformation, clearedInformation, clearedHeld}
+use Rattle.peer.specs.declared.Settings.{Settings}
+use Rattle.loopback.specs.declared.Role.the-variants.{Looping}
+use Rattle.discovery.specs.declared.Discovery.the-variants.{ActiveSendLocal}
+use Rattle.end.specs.declared.Report.the-variants.{LinkUp}
+use Rattle.end.specs.Taking.{learned, obeysCommand, obeyed, roleAfter, acted, isRepeat, shownEvents, shownOf, takenUp, taken, takenDue}
+use Rattle.link.specs.Hearing.{concludedHeard, concludedHeardOutput, receiveOf, receiveOutput}
+use Rattle.end.specs.Reporting.{linkUp, linkDown, reportedDue}
+use Rattle.link.specs.Reports.{reportOf, reportOutput}
+use Rattle.end.specs.Granting.{answerTo, granted}
+use Rattle.link.specs.Requests.{requestToSend, concludedRequest, concludedRequestOutput, asks, asksOutput}
+use Rattle.end.specs.Sending.{faultOf, flagsToSend, allowed, tlvsToSend, changed, dues, sends, sent}
+use Rattle.link.specs.Outcomes.{informationToSend, concluded, concludedOutput}
+use Rattle.end.specs.State.{freshEnd, discoveryOf, inAny, faulted, settled}
+use Rattle.end.specs.Ticking.{missed, ticked, tickedDue}
+use Rattle.link.specs.Ticks.{tickOf, tickOutput}
 use Rattle.reach.specs.Machine.{Input, tick, report, receive, request, tell, Call, outcomeOf}
 use Rattle.reach.specs.Runs.{after, framesIn}
 

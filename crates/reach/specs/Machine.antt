@@ -5,10 +5,10 @@ use mathlib.Core.List.{List}
 use lib.ListN.{length}
 use Rattle.frame.specs.Frame.{Body, information, Message}
 use Rattle.writer.specs.Writing.{messageOf, partsOf}
-use Rattle.link.specs.declared.End.{End}
-use Rattle.link.specs.declared.Report.{Report}
+use Rattle.end.specs.declared.End.{End}
+use Rattle.end.specs.declared.Report.{Report}
 use Rattle.link.specs.declared.Outcome.{Outcome}
-use Rattle.link.specs.Sending.{flagsToSend, tlvsToSend}
+use Rattle.end.specs.Sending.{flagsToSend, tlvsToSend}
 use Rattle.link.specs.Ticks.{tickOf, tickOutput}
 use Rattle.link.specs.Hearing.{receiveOf, receiveOutput}
 use Rattle.link.specs.Reports.{reportOf, reportOutput}

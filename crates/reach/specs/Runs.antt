@@ -3,9 +3,9 @@ use Prim.Native.Nat.{ℕ, _+_, _%_}
 use mathlib.Core.List.{List, [], _∷_}
 use mathlib.Core.Bool.{Bool, true, false, cond, not, _&&_}
 use lib.Dec.{eqb}
-use Rattle.end.specs.declared.Settings.{Settings}
-use Rattle.link.specs.declared.End.{End}
-use Rattle.link.specs.State.{freshEnd}
+use Rattle.peer.specs.declared.Settings.{Settings}
+use Rattle.end.specs.declared.End.{End}
+use Rattle.end.specs.State.{freshEnd}
 use Rattle.reach.specs.Machine.{Input, tick, report, receive, request, Call, outcomeOf}
 
 -- the end that calls, the latest first, make of a fresh one

@@ -8,19 +8,19 @@ use native.Mathlib.Nat.{add-assoc}
 use borrow.Author.Tests.{eqb-true, eqb-false}
 use lib.ListN.{length, getD, drop}
 use lib.Dec.{eqb}
-use Rattle.frame.specs.Tlvs.{informationLength, markAt}
-use Rattle.frame.specs.Events.{fieldsAt}
-use Rattle.frame.specs.Walk.{Next, has, parts}
-use Rattle.frame.specs.Information.{informationAt, stepOf, informationStep, InformationPart, local, remote, nextOf, informationParts}
-use Rattle.frame.specs.declared.tlvs.Mark.{Mark}
-use Rattle.frame.specs.declared.tlvs.Mark.the-variants.{End, Broken, Unknown, Known}
-use Rattle.frame.specs.declared.tlvs.Kind.the-variants.{Information as InformationKind}
-use Rattle.frame.specs.declared.Information.{Information}
-use Rattle.frame.specs.declared.InformationStep.{InformationStep}
-use Rattle.frame.specs.declared.InformationStep.the-variants.{Local, Remote}
-use Rattle.frame.proofs.Numbers.{Octets}
-use Rattle.frame.proofs.Walks.{by-cond}
-use Rattle.frame.proofs.Marks.{Marked, mark-within, information-16}
+use Rattle.body.specs.Tlvs.{informationLength, markAt}
+use Rattle.body.specs.Events.{fieldsAt}
+use Rattle.body.specs.Walk.{Next, has, parts}
+use Rattle.body.specs.Information.{informationAt, stepOf, informationStep, InformationPart, local, remote, nextOf, informationParts}
+use Rattle.body.specs.declared.tlvs.Mark.{Mark}
+use Rattle.body.specs.declared.tlvs.Mark.the-variants.{End, Broken, Unknown, Known}
+use Rattle.body.specs.declared.tlvs.Kind.the-variants.{Information as InformationKind}
+use Rattle.body.specs.declared.Information.{Information}
+use Rattle.body.specs.declared.InformationStep.{InformationStep}
+use Rattle.body.specs.declared.InformationStep.the-variants.{Local, Remote}
+use Rattle.body.proofs.Numbers.{Octets}
+use Rattle.body.proofs.Walks.{by-cond}
+use Rattle.body.proofs.Marks.{Marked, mark-within, information-16}
 use Rattle.writer.specs.Octets.{octs, fit}
 use Rattle.writer.specs.Encode.{informationWidths, informationValues, informationOctets, partOctets}
 use Rattle.writer.specs.Plain.{every, plainInformation, plainParts}

@@ -5,9 +5,9 @@ use mathlib.Core.Bool.{Bool, true, false, _&&_, and-true, and-eq-true-iff}
 use native.Mathlib.Omega.{arith}
 use borrow.Author.Tests.{lt-ltb, leb-true}
 use lib.Dec.{ltb, leb}
-use Rattle.frame.specs.declared.Information.{Information}
-use Rattle.frame.specs.declared.Held.{Held}
-use Rattle.frame.specs.declared.Held.the-variants.{Nothing, Is}
+use Rattle.body.specs.declared.Information.{Information}
+use Rattle.body.specs.declared.Held.{Held}
+use Rattle.body.specs.declared.Held.the-variants.{Nothing, Is}
 use Rattle.writer.specs.Octets.{fit}
 use Rattle.writer.specs.Plain.{plainInformation, plainParts, plainOrganization}
 use Rattle.writer.specs.Writing.{partsFrom, plainLocal}

@@ -8,8 +8,8 @@ use borrow.Author.Tests.{lt-ltb, le-ltb}
 use lib.ListN.{length, replicate, length-append}
 use lib.Seq.{sets}
 use Rattle.frame.specs.Frame.{information, Message, codeOf}
-use Rattle.frame.specs.declared.Held.{Held}
-use Rattle.frame.specs.declared.Held.the-variants.{Nothing, Is}
+use Rattle.body.specs.declared.Held.{Held}
+use Rattle.body.specs.declared.Held.the-variants.{Nothing, Is}
 use Rattle.writer.specs.Encode.{headerOctets, informationOctets, heldOctets, bodyOctets, encode}
 use Rattle.writer.specs.Plain.{plainHeader, plainBody, plain}
 use Rattle.writer.specs.Writing.{writes, written, Writing, partsFrom}

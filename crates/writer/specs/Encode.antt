@@ -2,13 +2,13 @@
 use Prim.Native.Nat.{ℕ, _-_}
 use mathlib.Core.List.{List, [], _∷_, _++_}
 use lib.ListN.{length, replicate}
-use Rattle.frame.specs.Tlvs.{row, eventLength}
-use Rattle.frame.specs.Information.{InformationPart, local, remote}
+use Rattle.body.specs.Tlvs.{row, eventLength}
+use Rattle.body.specs.Information.{InformationPart, local, remote}
 use Rattle.frame.specs.Frame.{Body, information, notification, request, response, loopback, organization, Message, codeOf}
-use Rattle.frame.specs.declared.Information.{Information}
-use Rattle.frame.specs.declared.Event.{Event}
-use Rattle.frame.specs.declared.Held.{Held}
-use Rattle.frame.specs.declared.Held.the-variants.{Nothing, Is}
+use Rattle.body.specs.declared.Information.{Information}
+use Rattle.body.specs.declared.Event.{Event}
+use Rattle.body.specs.declared.Held.{Held}
+use Rattle.body.specs.declared.Held.the-variants.{Nothing, Is}
 use Rattle.writer.specs.Octets.{oct, octs}
 
 -- "Destination 6, source 6, type 2, subtype 1, flags 2, code 1; the body starts at octet 18."

@@ -6,15 +6,15 @@ use mathlib.Core.Bool.{Bool, true, false, cond, _&&_}
 use lib.ListN.{length, getD, drop}
 use lib.Seq.{sets}
 use lib.Dec.{ltb, eqb}
-use Rattle.frame.specs.Information.{InformationPart, local, remote}
-use Rattle.frame.specs.Tlvs.{eventLength}
-use Rattle.frame.specs.Events.{eventOf}
+use Rattle.body.specs.Information.{InformationPart, local, remote}
+use Rattle.body.specs.Tlvs.{eventLength}
+use Rattle.body.specs.Events.{eventOf}
 use Rattle.frame.specs.Frame.{Body, information, notification, request, loopback, organization, Message}
-use Rattle.frame.specs.declared.Event.{Event}
-use Rattle.frame.specs.declared.Found.{Found}
-use Rattle.frame.specs.declared.Information.{Information}
-use Rattle.frame.specs.declared.Held.{Held}
-use Rattle.frame.specs.declared.Held.the-variants.{Nothing, Is}
+use Rattle.body.specs.declared.Event.{Event}
+use Rattle.body.specs.declared.Found.{Found}
+use Rattle.body.specs.declared.Information.{Information}
+use Rattle.body.specs.declared.Held.{Held}
+use Rattle.body.specs.declared.Held.the-variants.{Nothing, Is}
 use Rattle.writer.specs.declared.Written.{Written}
 use Rattle.writer.specs.declared.Written.the-variants.{Refused, Wrote}
 use Rattle.writer.specs.Encode.{encode}

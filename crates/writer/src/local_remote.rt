@@ -12,9 +12,9 @@ use crate::header::finish;
 use crate::header::plain_header;
 use crate::header::put_header;
 use crate::octets::put_fields;
-use frame::Found;
-use frame::Held;
-use frame::Information;
+use body::Found;
+use body::Held;
+use body::Information;
 
 fn plain_information(i: Information) -> bool
     ensures { λ r. ⌜ r ≡ plainInformation i ⌝ }

@@ -7,11 +7,11 @@ use borrow.Author.Needs.{needs}
 use denote.Ref.{now}
 use lib.ListN.{length, take, drop, getD, length-set, drop-of-length-le}
 use lib.Seq.{take-all}
-use Rattle.frame.specs.Octets.{total}
-use Rattle.frame.specs.Events.{fieldsAt}
-use Rattle.frame.proofs.Numbers.{number-there}
-use Rattle.frame.proofs.Rows.{total-at, fields-step}
-use Rattle.link.specs.Numbers.{numberWidths}
+use Rattle.body.specs.Octets.{total}
+use Rattle.body.specs.Events.{fieldsAt}
+use Rattle.body.proofs.Numbers.{number-there}
+use Rattle.body.proofs.Rows.{total-at, fields-step}
+use Rattle.packing.specs.Numbers.{numberWidths}
 use Rattle.packing.proofs.Widths.{widths-long, widths-total, widths-narrow}
 use Rattle.packing.proofs.numbers_in.Statement.{statement}
 use Rattle.packing.proofs.numbers_in.Tie as tie
@@ -69,7 +69,7 @@ loop-again c =
       omega (arith, c .before .loop-test .taken),
       simp length-set (l .inv .1),
       omega (arith, t, l .inv .2),
-      rw (c .number-at .ensures ∙ read) (l .inv .3 ∙ fields-step numberWidths (l .i) h (l .numbers) (omega (arith, l .inv .1, c .before .loop-test .taken)) s (l .position)),
+      rw (c .number-at .ensures .0 ∙ read) (l .inv .3 ∙ fields-step numberWidths (l .i) h (l .numbers) (omega (arith, l .inv .1, c .before .loop-test .taken)) s (l .position)),
     )
 
 returns : tie.Need-returns Inv-loop μ-loop

@@ -8,7 +8,7 @@ use denote.Ref.{now}
 use lib.ListN.{length}
 use lib.Seq.{sets}
 use Rattle.writer.specs.Octets.{octs}
-use Rattle.link.specs.Numbers.{numberWidths}
+use Rattle.packing.specs.Numbers.{numberWidths}
 use Rattle.packing.specs.Octets.{packed, packedIn}
 use Rattle.packing.proofs.Packing.{packed-long, stored-whole}
 use Rattle.packing.proofs.pack.Statement.{statement}

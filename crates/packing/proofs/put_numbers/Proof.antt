@@ -7,11 +7,11 @@ use borrow.Author.Needs.{needs}
 use denote.Ref.{now}
 use lib.ListN.{length, getD, drop, drop-of-length-le}
 use lib.Seq.{sets}
-use Rattle.frame.specs.Octets.{total}
-use Rattle.frame.proofs.Rows.{total-at}
+use Rattle.body.specs.Octets.{total}
+use Rattle.body.proofs.Rows.{total-at}
 use Rattle.writer.specs.Octets.{octs}
 use Rattle.writer.proofs.Stores.{next-field, put-there}
-use Rattle.link.specs.Numbers.{numberWidths}
+use Rattle.packing.specs.Numbers.{numberWidths}
 use Rattle.packing.proofs.Widths.{widths-long, widths-total}
 use Rattle.packing.proofs.put_numbers.Statement.{statement}
 use Rattle.packing.proofs.put_numbers.Tie as tie

@@ -2,7 +2,7 @@
 use mathlib.Core.Path.{ap, _∙_}
 use borrow.Author.Needs.{needs}
 use borrow.Author.Tests.{eq-eqb, ne-eqb}
-use Rattle.link.specs.Numbers.{endFrom}
+use Rattle.packing.specs.Numbers.{endFrom}
 use Rattle.packing.specs.Octets.{unpacked}
 use Rattle.packing.proofs.unpack.Statement.{statement}
 use Rattle.packing.proofs.unpack.Tie as tie

@@ -1,18 +1,14 @@
-use Rattle.end.specs.Sending.{faultFlag}
 use borrow.Author.Needs.{needs}
+use Rattle.end.specs.Sending.{faultOf}
 use Rattle.end.proofs.sending.is_fault.Statement.{statement}
 use Rattle.end.proofs.sending.is_fault.Tie as tie
 
+is-fault-requires : tie.Need-is-fault-requires
+is-fault-requires c κs = search needs
+
 returns : tie.Need-returns
-unfolding faultFlag
-returns c = rw (c .if1 .taken)
-
-is-unidirectional-requires : tie.Need-is-unidirectional-requires
-is-unidirectional-requires c κs = search needs
-
-returns-2 : tie.Need-returns-2
-unfolding faultFlag
-returns-2 c = rw (c .before .if1 .left) (c .is-unidirectional .ensures)
+unfolding faultOf
+returns c = simp (c .is-fault .ensures)
 
 pub is-fault-spec : {M : Type 1} → statement M
-is-fault-spec = tie.close (tie.spec returns is-unidirectional-requires returns-2)
+is-fault-spec = tie.close (tie.spec is-fault-requires returns)

@@ -3,7 +3,8 @@ use mathlib.Core.Path.{_≡_}
 use lib.Dec.{eqb}
 use mathlib.Core.Path.{ap, _∙_}
 use borrow.Author.Tests.{ne-eqb}
-use Rattle.frame.specs.Reader.{bodyReading, gatheredReading, gatheredOf}
+use Rattle.frame.specs.Reader.{bodyReading, gatheredReading}
+use Rattle.body.specs.Gathering.{gatheredOf}
 use borrow.Author.Needs.{needs}
 use Rattle.frame.proofs.reader.body_reading.Statement.{statement}
 use Rattle.frame.proofs.reader.body_reading.Tie as tie

@@ -15,8 +15,8 @@ unfolding reportOf reportOutput
 returns c = let short = sym (c .before .before .is-short .ensures) ∙ c .before .if1 .taken in
     (rw short (c .outcome .ensures), rw short)
 
-take-due-requires : tie.Need-take-due-requires
-take-due-requires c κs = search needs
+report-due-requires : tie.Need-report-due-requires
+report-due-requires c κs = search needs
 
 conclude-requires : tie.Need-conclude-requires
 conclude-requires c κs = search needs
@@ -27,7 +27,7 @@ same-length c = search needs
 returns-2 : tie.Need-returns-2
 unfolding reportOf reportOutput
 returns-2 c = let long = sym (c .before .before .before .before .before .before .is-short .ensures) ∙ c .before .before .before .before .before .if1 .left in
-    let due = c .before .before .before .before .take-due .ensures in
+    let due = c .before .before .before .before .report-due .ensures in
     (rw long (simp (c .before .before .conclude .ensures .0, due)), rw long (simp (c .before .before .conclude .ensures .1, due)))
 
 pub take-report-spec : {M : Type 1} → statement M
@@ -37,7 +37,7 @@ take-report-spec =
     is-short-requires
     outcome-requires
     returns
-    take-due-requires
+    report-due-requires
     conclude-requires
     same-length
     returns-2)

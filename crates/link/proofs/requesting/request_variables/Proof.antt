@@ -1,13 +1,19 @@
-use mathlib.Core.Path.{refl, _∙_}
+use mathlib.Core.Path.{ap, _∙_}
 use denote.Ref.{now}
 use lib.ListN.{length}
 use Rattle.writer.specs.Plain.{sized}
-use Rattle.link.specs.Sending.{dues}
-use Rattle.link.specs.Requests.{requesting, answerTo, granted}
+use Rattle.peer.specs.Bits.{bit}
+use Rattle.peer.specs.declared.Settings.{Settings}
+use Rattle.end.specs.Sending.{dues}
+use Rattle.end.specs.Granting.{answerTo, granted}
+use Rattle.link.specs.Requests.{requesting}
 use Rattle.link.proofs.Asking.{grants, refuses}
 use borrow.Author.Needs.{needs}
 use Rattle.link.proofs.requesting.request_variables.Statement.{statement}
 use Rattle.link.proofs.requesting.request_variables.Tie as tie
+
+settings-requires : tie.Need-settings-requires
+settings-requires c κs = search needs
 
 request-octets-requires : tie.Need-request-octets-requires
 request-octets-requires c κs = search needs
@@ -38,9 +44,9 @@ unfolding granted dues
 returns c =
     let a = c .before .before .before .before .before .before .before .before .before .before .before .before .before .before .args in
     let q = requesting (now (a .descriptors)) (a .e) in
-    grants (sized (q .body)) q (a .e) (now (a .out)) (c .before .before .before .before .before .before .before .before .answer-to .result) (c .before .before .before .before .before .before .before .before .answer-to .ensures ∙ (λ i. answerTo (c .before .before .before .before .before .before .before .before .before .before .request-octets .ensures i) (c .before .before .before .before .before .before .before .before .before .is-active .ensures i) (length (now (a .out))) (a .e))) (c .before .before .before .before .before .before .before .if1 .taken)
-    (c .before .before .before .before .before .before .grant .result) (a .e .settings .source) (c .before .before .before .before .before .flags .result) (c .before .before .before .write-request .result) _ _
-    (c .before .before .before .before .before .before .grant .ensures) (refl) (c .before .before .before .before .before .flags .ensures) (c .before .before .before .write-request .ensures) (c .send .ensures)
+    grants (sized (q .body)) q (a .e) (now (a .out)) (c .before .before .before .before .before .before .before .before .answer-to .result) (c .before .before .before .before .before .before .before .before .answer-to .ensures ∙ (λ i. answerTo (c .before .before .before .before .before .before .before .before .before .before .request-octets .ensures i) ((c .before .before .before .before .before .before .before .before .before .is-active .ensures ∙ ap (λ (s : Settings). bit 0 (s .configuration)) (c .before .before .before .before .before .before .before .before .before .before .before .settings .ensures)) i) (length (now (a .out))) (a .e))) (c .before .before .before .before .before .before .before .if1 .taken)
+    (c .before .before .before .before .before .before .grant .result) (c .before .before .before .before .before .before .before .before .before .before .before .settings .result .source) (c .before .before .before .before .before .flags .result) (c .before .before .before .write-request .result) _ _
+    (c .before .before .before .before .before .before .grant .ensures) (ap (λ (s : Settings). s .source) (c .before .before .before .before .before .before .before .before .before .before .before .settings .ensures)) (c .before .before .before .before .before .flags .ensures) (c .before .before .before .write-request .ensures) (c .send .ensures)
 
 refuse-requires : tie.Need-refuse-requires
 refuse-requires c κs = search needs
@@ -49,12 +55,13 @@ returns-2 : tie.Need-returns-2
 returns-2 c =
     let a = c .before .before .before .before .before .before .before .before .args in
     let q = requesting (now (a .descriptors)) (a .e) in
-    refuses (sized (q .body)) q (a .e) (now (a .out)) (c .before .before .answer-to .result) (c .before .before .answer-to .ensures ∙ (λ i. answerTo (c .before .before .before .before .request-octets .ensures i) (c .before .before .before .is-active .ensures i) (length (now (a .out))) (a .e))) (c .before .if1 .left) _ (c .refuse .ensures)
+    refuses (sized (q .body)) q (a .e) (now (a .out)) (c .before .before .answer-to .result) (c .before .before .answer-to .ensures ∙ (λ i. answerTo (c .before .before .before .before .request-octets .ensures i) ((c .before .before .before .is-active .ensures ∙ ap (λ (s : Settings). bit 0 (s .configuration)) (c .before .before .before .before .before .settings .ensures)) i) (length (now (a .out))) (a .e))) (c .before .if1 .left) _ (c .refuse .ensures)
 
 pub request-variables-spec : {M : Type 1} → statement M
 request-variables-spec =
     tie.close
     (tie.spec
+    settings-requires
     request-octets-requires
     is-active-requires
     answer-to-requires

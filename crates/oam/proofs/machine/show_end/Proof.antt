@@ -5,8 +5,8 @@ use mathlib.Core.List.{List, [], _∷_, _++_}
 use denote.Ref.{now}
 use lib.ListN.{set}
 use lib.Seq.{sets}
-use Rattle.end.specs.Standing.{placeOf}
-use Rattle.link.specs.Numbers.{numbersOf}
+use Rattle.discovery.specs.Standing.{placeOf}
+use Rattle.packing.specs.Numbers.{numbersOf}
 use Rattle.packing.proofs.Packing.{numbers-long}
 use Rattle.oam.specs.Machine.{endNumbers}
 use Rattle.oam.proofs.Stepped.{one-more}

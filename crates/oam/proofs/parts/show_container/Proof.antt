@@ -3,7 +3,7 @@ use mathlib.Core.Path.{sym, _∙_, subst}
 use native.Mathlib.Omega.{arith}
 use denote.Ref.{now}
 use lib.ListN.{length}
-use Rattle.frame.proofs.Wholes.{Contained, container-within}
+use Rattle.body.proofs.Wholes.{Contained, container-within}
 use Rattle.oam.proofs.Written.{untouched}
 use borrow.Author.Needs.{needs}
 use Rattle.oam.proofs.parts.show_container.Statement.{statement}

@@ -1,0 +1,81 @@
+-- Laws of numbers that stand in octets.
+use Prim.Native.Nat.{ℕ, zero, suc, _+_, _*_, _/_, _%_, _^_, _<_, _≤_}
+use mathlib.Core.Path.{_≡_, refl, subst}
+use mathlib.Core.List.{List}
+use mathlib.Core.Bool.{Bool, true, false, cond, _&&_}
+use native.Mathlib.Omega.{arith}
+use native.Mathlib.Nat.{pow-suc, pow-le-pow-right}
+use borrow.Author.Tests.{le-leb, lt-leb}
+use lib.Dec.{leb}
+use lib.Bits.{bitAnd, bitOr, and-mask, or-shifted}
+use lib.Pow.{split}
+use lib.ListN.{length, getD}
+use Rattle.body.specs.Octets.{num, numberAt}
+use Rattle.body.specs.Octets.{bitOf}
+
+-- every element is an octet
+abbrev pub Octets : List ℕ → Type 0
+Octets s = (i : ℕ) → getD s i 0 < 256
+
+-- what stands in some octets fits them
+pub num-lt : (width : ℕ) (s : List ℕ) (at : ℕ) → Octets s → num width s at < 256 ^ width
+num-lt zero s at h = omega arith
+num-lt (suc width) s at h = rw pow-suc (omega (arith, num-lt width s at h, h (at + width)))
+
+pub pow-upto : (i j : ℕ) → i ≤ j → 256 ^ i ≤ 256 ^ j
+pow-upto i j h = pow-le-pow-right (omega arith) h
+
+pub number-zero : (width : ℕ) → 0 < 256 ^ width
+number-zero width = omega (arith, pow-upto 0 width (omega arith))
+
+-- a number that is read at any octet, where it stands and where it does not
+module _ (width : ℕ) (s : List ℕ) (at : ℕ) where
+  pub number-there : width ≤ 8 → at + width ≤ length s → numberAt width s at ≡ num width s at
+  unfolding numberAt
+  number-there h k = rw (le-leb width 8 h, le-leb (at + width) (length s) k)
+
+  pub number-wide : 8 < width → 0 ≡ numberAt width s at
+  unfolding numberAt
+  number-wide h = rw (lt-leb width 8 h)
+
+  pub number-past : length s < at + width → 0 ≡ numberAt width s at
+  unfolding numberAt
+  number-past h = rw (lt-leb (at + width) (length s) h) (none (leb width 8))
+    where
+      none : (b : Bool) → 0 ≡ cond (b && false) (num width s at) 0
+      none true = refl
+      none false = refl
+
+-- masks as remainders
+pub mask-1 : (n : ℕ) → bitAnd n 1 ≡ n % 2
+mask-1 n = and-mask n 1
+
+pub mask-3 : (n : ℕ) → bitAnd n 3 ≡ n % 4
+mask-3 n = and-mask n 2
+
+-- an or of numbers that share no bit: x is a multiple of 2 ^ k, and y is below it
+or-sum : (k x y : ℕ) → x % 2 ^ k ≡ 0 → y < 2 ^ k → bitOr x y ≡ x + y
+or-sum k x y e h =
+    let whole : x / 2 ^ k * 2 ^ k ≡ x = omega (arith, split x k) in
+    subst (λ (n : ℕ). bitOr n y ≡ n + y) whole (or-shifted (x / 2 ^ k) k y h)
+
+-- the flags' parts at their places
+pub flags-sum : (a b c d e : ℕ) → a < 4 → b < 4 → c < 2 → d < 2 → e < 2
+    → bitOr (bitOr (bitOr (bitOr (a * 32 % 65536) (b * 8 % 65536)) (c * 4 % 65536)) (d * 2 % 65536)) e
+    ≡ a * 32 + (b * 8 + (c * 4 + (d * 2 + e)))
+flags-sum a b c d e ha hb hc hd he =
+    let a′ = a * 32 % 65536 in
+    let b′ = b * 8 % 65536 in
+    let c′ = c * 4 % 65536 in
+    let d′ = d * 2 % 65536 in
+    rw (
+      or-sum 5 a′ b′ (omega arith) (omega arith),
+      or-sum 3 (a′ + b′) c′ (omega arith) (omega arith),
+      or-sum 2 (a′ + b′ + c′) d′ (omega arith) (omega arith),
+      or-sum 1 (a′ + b′ + c′ + d′) e (omega arith) (omega arith),
+    )
+    (omega arith)
+
+pub bit-lt : (on : Bool) → bitOf on < 2
+bit-lt true = omega arith
+bit-lt false = omega arith

@@ -1,0 +1,102 @@
+// The bodies of OAM frames: the numbers, TLVs, descriptors and containers that stand in their octets.
+//
+// The parts of a body are taken in order, one a call, by the step of their kind: `information_step`, `event_step`,
+// `descriptor_step`, `container_step`. Begin at octet 0, and go on at the octet that each step gives, until the end. A step
+// judges what stands at its octet alone: a second Local is shown as a Local, and it is `gather` that refuses such a body.
+// Nothing is copied out of a body but numbers: what is longer is a part of the caller's own octets.
+mod lists;
+mod local_remote;
+mod notifications;
+mod octets;
+mod tlvs;
+mod variables;
+
+pub use lists::is_whole;
+pub use local_remote::gather;
+pub use local_remote::information_step;
+pub use notifications::event_length;
+pub use notifications::event_step;
+pub use notifications::event_widths;
+pub use octets::number_at;
+pub use variables::container_step;
+pub use variables::container_value;
+pub use variables::descriptor_step;
+
+// The fields of one Information TLV, with the bits that are ignored as they were received; `oampdu` is the OAMPDU
+// configuration, whose low 11 bits are the maximum size.
+pub struct Information {
+    pub version: u8,
+    pub revision: u16,
+    pub state: u8,
+    pub configuration: u8,
+    pub oampdu: u16,
+    pub oui: u32,
+    pub vendor: u32,
+}
+
+pub enum Held {
+    Nothing,
+    Is(Information),
+}
+
+// The Local and the Remote Information TLV of a frame.
+pub struct Found {
+    pub local: Held,
+    pub remote: Held,
+}
+
+// What an Information body comes to: the number of its refusal, or the TLVs found.
+pub enum Gathered {
+    Refused(u8),
+    Whole(Found),
+}
+
+// The fields of one event TLV, in the order of the table of widths; `kind` is its type, 1 to 4.
+pub struct Event {
+    pub kind: u8,
+    pub timestamp: u64,
+    pub window: u64,
+    pub threshold: u64,
+    pub errors: u64,
+    pub error_total: u64,
+    pub event_total: u64,
+}
+
+// What stands at an octet of a body, with the octet after it. An unknown TLV is to be skipped.
+pub enum InformationStep {
+    End,
+    Broken,
+    Skip(usize),
+    Local(Information, usize),
+    Remote(Information, usize),
+}
+
+pub enum EventStep {
+    End,
+    Broken,
+    Skip(usize),
+    Has(Event, usize),
+}
+
+// A descriptor is one number, the branch above the leaf's sixteen bits.
+pub enum DescriptorStep {
+    End,
+    Broken,
+    Has(u32, usize),
+}
+
+// A container's descriptor, then the number of its value's octets, or its width octet as received, 128 or more, whose low
+// seven bits are the indication.
+pub enum ContainerStep {
+    End,
+    Broken,
+    Value(u32, usize, usize),
+    Indication(u32, u8, usize),
+}
+
+// The kinds of list.
+pub enum ListKind {
+    Events,
+    Descriptors,
+    Containers,
+}

@@ -1,0 +1,65 @@
+// The descriptors of a Variable Request and the containers of a Variable Response.
+ghost use mathlib.Core.Path.{_≡_};
+ghost use Rattle.body.specs.Variables.{descriptorStep, widthOf, containerStep, valueAt};
+use crate::ContainerStep;
+use crate::DescriptorStep;
+use crate::octets::number;
+
+// What stands at an octet of a list of descriptors.
+pub fn descriptor_step(body: &[u8], at: usize) -> DescriptorStep
+    ensures { λ r. ⌜ r ≡ descriptorStep (now (body .entry)) at ⌝ }
+{
+    if body.len() <= at {
+        return DescriptorStep::End;
+    }
+    if body[at] == 0 {
+        return DescriptorStep::End;
+    }
+    if body.len() - at < 3 {
+        return DescriptorStep::Broken;
+    }
+    DescriptorStep::Has(number(body, at, 3) as u32, at + 3)
+}
+
+// The octets of a value by its width octet.
+fn width_of(octet: u8) -> usize
+    ensures { λ r. ⌜ r ≡ widthOf octet ⌝ }
+{
+    if octet == 0 { 128 } else { octet as usize }
+}
+
+// What stands at an octet of a list of containers.
+pub fn container_step(body: &[u8], at: usize) -> ContainerStep
+    ensures { λ r. ⌜ r ≡ containerStep (now (body .entry)) at ⌝ }
+{
+    match descriptor_step(body, at) {
+        DescriptorStep::End => ContainerStep::End,
+        DescriptorStep::Broken => ContainerStep::Broken,
+        DescriptorStep::Has(descriptor, from) => {
+            if body.len() <= from {
+                return ContainerStep::Broken;
+            }
+            let octet = body[from];
+            if 128 <= octet {
+                return ContainerStep::Indication(descriptor, octet, from + 1);
+            }
+            let width = width_of(octet);
+            if body.len() - (from + 1) < width {
+                return ContainerStep::Broken;
+            }
+            ContainerStep::Value(descriptor, width, from + 1 + width)
+        }
+    }
+}
+
+// The value of the container at an octet; empty where no value stands.
+pub fn container_value(body: &[u8], at: usize) -> &[u8]
+    ensures { λ r. ⌜ now r ≡ valueAt (now (body .entry)) at ⌝ }
+{
+    match container_step(body, at) {
+        ContainerStep::End => &body[..0],
+        ContainerStep::Broken => &body[..0],
+        ContainerStep::Value(_, width, next) => &body[next - width..next],
+        ContainerStep::Indication(_, _, _) => &body[..0],
+    }
+}

@@ -1,0 +1,96 @@
+use Prim.Native.Nat.{_^_}
+use native.Mathlib.Omega.{arith}
+use borrow.Author.Tests.{lt-ltb}
+use Rattle.end.specs.Ranges.{ranged}
+use mathlib.Core.Bool.{and-true}
+use borrow.Author.Needs.{needs}
+use Rattle.end.proofs.ranges.is_ranged.Statement.{statement}
+use Rattle.end.proofs.ranges.is_ranged.Tie as tie
+
+is-allowed-requires : tie.Need-is-allowed-requires
+is-allowed-requires c κs = search needs
+
+either-requires : tie.Need-either-requires
+either-requires c κs = search needs
+
+is-idle-requires : tie.Need-is-idle-requires
+is-idle-requires c κs = search needs
+
+in-any-requires : tie.Need-in-any-requires
+in-any-requires c κs = search needs
+
+either-requires-2 : tie.Need-either-requires-2
+either-requires-2 c κs = search needs
+
+is-blank-requires : tie.Need-is-blank-requires
+is-blank-requires c κs = search needs
+
+either-requires-3 : tie.Need-either-requires-3
+either-requires-3 c κs = search needs
+
+is-bounded-requires : tie.Need-is-bounded-requires
+is-bounded-requires c κs = search needs
+
+all-four-requires : tie.Need-all-four-requires
+all-four-requires c κs = search needs
+
+held-fits-requires : tie.Need-held-fits-requires
+held-fits-requires c κs = search needs
+
+last-fits-requires : tie.Need-last-fits-requires
+last-fits-requires c κs = search needs
+
+all-three-requires : tie.Need-all-three-requires
+all-three-requires c κs = search needs
+
+is-sound-requires : tie.Need-is-sound-requires
+is-sound-requires c κs = search needs
+
+all-four-requires-2 : tie.Need-all-four-requires-2
+all-four-requires-2 c κs = search needs
+
+returns : tie.Need-returns
+unfolding ranged
+returns c =
+    let e = c .before .before .before .before .before .before .before .before .before .before .before .before .before .before .before .before .before .before .args .e in
+    let g = c .before .before .before .before .before .before .before .before .before .before .before .before .before .before .before .before .before .before .good in
+    simp (
+      c .all-four2 .ensures,
+      c .before .before .before .is-sound .ensures,
+      c .before .before .before .before .all-three .ensures,
+      c .before .before .before .before .before .last-fits .ensures,
+      c .before .before .before .before .before .before .held-fits .ensures,
+      c .before .before .before .before .before .before .before .all-four .ensures,
+      c .before .before .before .before .before .before .before .before .is-bounded .ensures,
+      c .before .before .before .before .before .before .before .before .before .either3 .ensures,
+      c .before .before .before .before .before .before .before .before .before .before .is-blank .ensures,
+      c .before .before .before .before .before .before .before .before .before .before .before .either2 .ensures,
+      c .before .before .before .before .before .before .before .before .before .before .before .before .in-any .ensures,
+      c .before .before .before .before .before .before .before .before .before .before .before .before .before .is-idle .ensures,
+      c .before .before .before .before .before .before .before .before .before .before .before .before .before .before .either .ensures,
+      c .before .before .before .before .before .before .before .before .before .before .before .before .before .before .before .is-allowed .ensures,
+      lt-ltb (e .settings .vendor) (2 ^ 32) (omega (arith, g)),
+      lt-ltb (e .own .revision) (2 ^ 16) (omega (arith, g)),
+      lt-ltb (e .own .number) (2 ^ 16) (omega (arith, g)),
+      and-true,
+    )
+
+pub is-ranged-spec : {M : Type 1} → statement M
+is-ranged-spec =
+    tie.close
+    (tie.spec
+    is-allowed-requires
+    either-requires
+    is-idle-requires
+    in-any-requires
+    either-requires-2
+    is-blank-requires
+    either-requires-3
+    is-bounded-requires
+    all-four-requires
+    held-fits-requires
+    last-fits-requires
+    all-three-requires
+    is-sound-requires
+    all-four-requires-2
+    returns)

@@ -1,0 +1,18 @@
+use borrow.Author.Needs.{needs}
+use Rattle.end.specs.Reporting.{linkDown}
+use Rattle.end.proofs.reporting.link_down.Statement.{statement}
+use Rattle.end.proofs.reporting.link_down.Tie as tie
+
+fault-requires : tie.Need-fault-requires
+fault-requires c κs = search needs
+
+returns : tie.Need-returns
+unfolding linkDown
+returns c = simp (c .before .before .before .before .fault .ensures, c .before .before .before .before .before .if1 .taken)
+
+returns-2 : tie.Need-returns-2
+unfolding linkDown
+returns-2 c = simp (c .if1 .left)
+
+pub link-down-spec : {M : Type 1} → statement M
+link-down-spec = tie.close (tie.spec fault-requires returns returns-2)

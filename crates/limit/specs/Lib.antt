@@ -1,0 +1,3 @@
+pub mod Limit
+pub mod Owing
+pub mod Asking

@@ -1,0 +1,17 @@
+use borrow.Author.Tests.{eq-eqb, ne-eqb}
+use borrow.Author.Needs.{needs}
+use Rattle.loopback.specs.Loopback.{commanded}
+use Rattle.loopback.proofs.loopback.role_after_command.Statement.{statement}
+use Rattle.loopback.proofs.loopback.role_after_command.Tie as tie
+
+returns : tie.Need-returns
+returns c = simp (eq-eqb _ _ (c .if2 .taken), c .before .if1 .taken)
+
+returns-2 : tie.Need-returns-2
+returns-2 c = simp (ne-eqb _ _ (c .if2 .left), c .before .if1 .taken)
+
+returns-3 : tie.Need-returns-3
+returns-3 c = search needs
+
+pub role-after-command-spec : {M : Type 1} → statement M
+role-after-command-spec = tie.close (tie.spec returns returns-2 returns-3)

@@ -1,0 +1,71 @@
+-- Loopback: what a Local TLV and a command make of the role, and which requests the role, the mode and the peer allow.
+use Prim.Native.Nat.{ℕ, _%_}
+use mathlib.Core.Bool.{Bool, true, false, cond, _&&_}
+use lib.Dec.{eqb}
+use Rattle.body.specs.declared.Held.{Held}
+use Rattle.body.specs.declared.Held.the-variants.{Nothing, Is}
+use Rattle.loopback.specs.declared.Role.{Role}
+use Rattle.loopback.specs.declared.Role.the-variants.{Idle, Asking, Holding, Ending, Looping}
+use Rattle.peer.specs.Bits.{bit}
+use Rattle.peer.specs.Peers.{peerActive, peerLoopback}
+
+-- "A Local TLV with parser 1, multiplexer discard: Asking becomes Holding. Both forward: Ending becomes Idle."
+abbrev pub answering : Role → Bool → Bool → Role
+answering Idle looping forward = Idle
+answering Asking looping forward = cond looping Holding Asking
+answering Holding looping forward = Holding
+answering Ending looping forward = cond forward Idle Ending
+answering Looping looping forward = Looping
+
+-- "State: bits 1:0 parser ..., bit 2 multiplexer (1 discard)"
+unfoldable pub answered : Held → Role → Role
+answered Nothing role = role
+answered (Is i) role = answering role (eqb (i .state % 8) 5) (eqb (i .state % 8) 0)
+
+-- "Idle or Looping becomes Looping; Asking becomes Looping if its own address is the higher one (first octet first), else nothing."
+abbrev pub takes : Role → Bool → Bool
+takes Idle higher = true
+takes Asking higher = higher
+takes Holding higher = false
+takes Ending higher = false
+takes Looping higher = true
+
+abbrev pub isLooping : Role → Bool
+isLooping Idle = false
+isLooping Asking = false
+isLooping Holding = false
+isLooping Ending = false
+isLooping Looping = true
+
+-- "Enable, own bit 2 set and peer active"; "Disable: Looping becomes Idle. Otherwise ignored, still accepted." By the command, whether
+-- the own address is the higher one, the own configuration, the peer record and the role.
+unfoldable pub obeys : ℕ → Bool → ℕ → Held → Role → Bool
+obeys command higher configuration peer role =
+    cond (eqb command 1) (bit 2 configuration && (peerActive peer && takes role higher)) (isLooping role)
+
+-- the role after a command, by whether it is obeyed
+abbrev pub commanded : ℕ → Bool → Role → Role
+commanded command obeyed role = cond obeyed (cond (eqb command 1) Looping Idle) role
+
+-- "Start (Idle or Asking)"
+abbrev pub starts : Role → Bool
+starts Idle = true
+starts Asking = true
+starts Holding = false
+starts Ending = false
+starts Looping = false
+
+-- "Stop (Asking, Holding, Ending)"
+abbrev pub stops : Role → Bool
+stops Idle = false
+stops Asking = true
+stops Holding = true
+stops Ending = true
+stops Looping = false
+
+-- "Other roles, a passive end, or for start a peer without bit 2: 15."
+unfoldable pub mayStart : ℕ → Held → Role → Bool
+mayStart configuration peer role = bit 0 configuration && (peerLoopback peer && starts role)
+
+unfoldable pub mayStop : ℕ → Role → Bool
+mayStop configuration role = bit 0 configuration && stops role

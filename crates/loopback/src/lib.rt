@@ -1,0 +1,18 @@
+// Loopback: the five roles, their State octets, and what a frame or a request makes of them.
+mod loopback;
+mod roles;
+
+pub use loopback::answer;
+pub use loopback::is_obeyed;
+pub use loopback::may_start;
+pub use loopback::may_stop;
+pub use loopback::role_after_command;
+pub use roles::role_of;
+
+pub enum Role {
+    Idle,
+    Asking,
+    Holding,
+    Ending,
+    Looping,
+}

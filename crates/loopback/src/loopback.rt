@@ -1,0 +1,124 @@
+// Loopback: what a Local TLV and a command make of the role, and which requests the role, the mode and the peer allow.
+ghost use mathlib.Core.Path.{_≡_};
+ghost use Rattle.loopback.specs.Loopback.{answering, answered, takes, isLooping, obeys, commanded, starts, stops, mayStart, mayStop};
+use crate::Role;
+use body::Held;
+
+fn answering(role: Role, looping: bool, forward: bool) -> Role
+    ensures { λ r. ⌜ r ≡ answering role looping forward ⌝ }
+{
+    match role {
+        Role::Idle => role,
+        Role::Asking => if looping { Role::Holding } else { role },
+        Role::Holding => role,
+        Role::Ending => if forward { Role::Idle } else { role },
+        Role::Looping => role,
+    }
+}
+
+// The role after a Local TLV with parser and multiplexer actions.
+pub fn answer(local: Held, role: Role) -> Role
+    ensures { λ r. ⌜ r ≡ answered local role ⌝ }
+{
+    match local {
+        Held::Nothing => role,
+        Held::Is(i) => answering(role, i.state % 8 == 5, i.state % 8 == 0),
+    }
+}
+
+fn takes(role: Role, higher: bool) -> bool
+    ensures { λ r. ⌜ r ≡ takes role higher ⌝ }
+{
+    match role {
+        Role::Idle => true,
+        Role::Asking => higher,
+        Role::Holding => false,
+        Role::Ending => false,
+        Role::Looping => true,
+    }
+}
+
+fn is_looping(role: Role) -> bool
+    ensures { λ r. ⌜ r ≡ isLooping role ⌝ }
+{
+    match role {
+        Role::Idle => false,
+        Role::Asking => false,
+        Role::Holding => false,
+        Role::Ending => false,
+        Role::Looping => true,
+    }
+}
+
+// Whether a loopback command is obeyed.
+pub fn is_obeyed(command: u8, higher: bool, configuration: u8, peer: Held, role: Role) -> bool
+    ensures { λ r. ⌜ r ≡ obeys command higher configuration peer role ⌝ }
+{
+    if command == 1 {
+        return peer::all_three(
+            peer::is_loopback(configuration),
+            peer::is_peer_active(peer),
+            takes(role, higher),
+        );
+    }
+    is_looping(role)
+}
+
+// The role after a loopback command, by whether it is obeyed.
+pub fn role_after_command(command: u8, obeyed: bool, role: Role) -> Role
+    ensures { λ r. ⌜ r ≡ commanded command obeyed role ⌝ }
+{
+    if obeyed {
+        return if command == 1 {
+            Role::Looping
+        } else {
+            Role::Idle
+        };
+    }
+    role
+}
+
+fn starts(role: Role) -> bool
+    ensures { λ r. ⌜ r ≡ starts role ⌝ }
+{
+    match role {
+        Role::Idle => true,
+        Role::Asking => true,
+        Role::Holding => false,
+        Role::Ending => false,
+        Role::Looping => false,
+    }
+}
+
+fn stops(role: Role) -> bool
+    ensures { λ r. ⌜ r ≡ stops role ⌝ }
+{
+    match role {
+        Role::Idle => false,
+        Role::Asking => true,
+        Role::Holding => true,
+        Role::Ending => true,
+        Role::Looping => false,
+    }
+}
+
+// Whether a loopback start is allowed by the mode, the peer's capability and the role.
+pub fn may_start(configuration: u8, peer: Held, role: Role) -> bool
+    ensures { λ r. ⌜ r ≡ mayStart configuration peer role ⌝ }
+{
+    peer::all_three(
+        peer::is_active(configuration),
+        peer::is_peer_loopback(peer),
+        starts(role),
+    )
+}
+
+// Whether a loopback stop is allowed by the mode and the role.
+pub fn may_stop(configuration: u8, role: Role) -> bool
+    ensures { λ r. ⌜ r ≡ mayStop configuration role ⌝ }
+{
+    if peer::is_active(configuration) {
+        return stops(role);
+    }
+    false
+}

@@ -1,0 +1,31 @@
+// Tests joined: every one is taken before they are joined, so that a function has no branch of its own.
+ghost use mathlib.Core.Path.{_≡_};
+ghost use mathlib.Core.Bool.{_&&_, _||_};
+
+pub fn either(a: bool, b: bool) -> bool
+    ensures { λ r. ⌜ r ≡ (a || b) ⌝ }
+{
+    if a { true } else { b }
+}
+
+pub fn both(a: bool, b: bool) -> bool
+    ensures { λ r. ⌜ r ≡ (a && b) ⌝ }
+{
+    if a { b } else { false }
+}
+
+pub fn all_three(a: bool, b: bool, c: bool) -> bool
+    ensures { λ r. ⌜ r ≡ (a && (b && c)) ⌝ }
+{
+    if a { if b { c } else { false } } else { false }
+}
+
+pub fn all_four(a: bool, b: bool, c: bool, d: bool) -> bool
+    ensures { λ r. ⌜ r ≡ (a && (b && (c && d))) ⌝ }
+{
+    if a {
+        if b { if c { d } else { false } } else { false }
+    } else {
+        false
+    }
+}
