@@ -1,10 +1,10 @@
 -- Laws of numbers that stand in octets.
 use Prim.Native.Nat.{ℕ, zero, suc, _+_, _*_, _/_, _%_, _^_, _<_, _≤_}
-use mathlib.Core.Path.{_≡_, refl, subst}
-use mathlib.Core.List.{List}
+use mathlib.Core.Path.{_≡_, refl, ap, subst}
+use mathlib.Core.List.{List, [], _∷_}
 use mathlib.Core.Bool.{Bool, true, false, cond, _&&_}
 use native.Mathlib.Omega.{arith}
-use native.Mathlib.Nat.{pow-suc, pow-le-pow-right}
+use native.Mathlib.Nat.{add-zero, pow-suc, pow-le-pow-right}
 use borrow.Author.Tests.{le-leb, lt-leb}
 use lib.Dec.{leb}
 use lib.Bits.{bitAnd, bitOr, and-mask, or-shifted}
@@ -17,6 +17,26 @@ use Rattle.body.specs.Octets.{bitOf}
 abbrev pub Octets : List ℕ → Type 0
 Octets s = (i : ℕ) → getD s i 0 < 256
 
+-- octets joined are the number that stands in them
+module _ (s : List ℕ) (at : ℕ) where
+  pub num-one : num 1 s at ≡ getD s at 0
+  num-one = rw add-zero (omega arith)
+
+  pub num-two : (a b : ℕ) → a ≡ getD s at 0 → b ≡ getD s (at + 1) 0 → num 2 (a ∷ b ∷ []) 0 ≡ num 2 s at
+  num-two a b p q = rw (add-zero, p, q)
+
+  pub num-three : (a b c : ℕ) → a ≡ getD s at 0 → b ≡ getD s (at + 1) 0 → c ≡ getD s (at + 2) 0
+      → num 3 (a ∷ b ∷ c ∷ []) 0 ≡ num 3 s at
+  num-three a b c p q r = rw (add-zero, p, q, r)
+
+  pub num-four : (a b c d : ℕ) → a ≡ getD s at 0 → b ≡ getD s (at + 1) 0 → c ≡ getD s (at + 2) 0 → d ≡ getD s (at + 3) 0
+      → num 4 (a ∷ b ∷ c ∷ d ∷ []) 0 ≡ num 4 s at
+  num-four a b c d p q r t = rw (add-zero, p, q, r, t)
+
+-- an octet by its place, however that is added up
+pub octet-at : (s : List ℕ) (m n : ℕ) → m ≡ n → getD s m 0 ≡ getD s n 0
+octet-at s m n e = ap (λ (k : ℕ). getD s k 0) e
+
 -- what stands in some octets fits them
 pub num-lt : (width : ℕ) (s : List ℕ) (at : ℕ) → Octets s → num width s at < 256 ^ width
 num-lt zero s at h = omega arith
@@ -24,9 +44,6 @@ num-lt (suc width) s at h = rw pow-suc (omega (arith, num-lt width s at h, h (at
 
 pub pow-upto : (i j : ℕ) → i ≤ j → 256 ^ i ≤ 256 ^ j
 pow-upto i j h = pow-le-pow-right (omega arith) h
-
-pub number-zero : (width : ℕ) → 0 < 256 ^ width
-number-zero width = omega (arith, pow-upto 0 width (omega arith))
 
 -- a number that is read at any octet, where it stands and where it does not
 module _ (width : ℕ) (s : List ℕ) (at : ℕ) where

@@ -10,7 +10,9 @@ use crate::Gathered;
 use crate::Held;
 use crate::Information;
 use crate::InformationStep;
-use crate::octets::number;
+use crate::octets::join_four;
+use crate::octets::join_three;
+use crate::octets::join_two;
 use crate::tlvs::Kind;
 use crate::tlvs::Mark;
 use crate::tlvs::mark_at;
@@ -36,13 +38,13 @@ fn information_at(body: &[u8], at: usize) -> Information
     ensures { λ r. ⌜ r ≡ informationAt (now (body .entry)) at ⌝ }
 {
     Information {
-        version: number(body, at + 2, 1) as u8,
-        revision: number(body, at + 3, 2) as u16,
-        state: number(body, at + 5, 1) as u8,
-        configuration: number(body, at + 6, 1) as u8,
-        oampdu: number(body, at + 7, 2) as u16,
-        oui: number(body, at + 9, 3) as u32,
-        vendor: number(body, at + 12, 4) as u32,
+        version: body[at + 2],
+        revision: join_two(body[at + 3], body[at + 4]),
+        state: body[at + 5],
+        configuration: body[at + 6],
+        oampdu: join_two(body[at + 7], body[at + 8]),
+        oui: join_three(body[at + 9], body[at + 10], body[at + 11]),
+        vendor: join_four(body[at + 12], body[at + 13], body[at + 14], body[at + 15]),
     }
 }
 

@@ -1,5 +1,6 @@
 // Numbers that stand in octets, the first octet first.
 ghost use mathlib.Core.Path.{_≡_};
+ghost use mathlib.Core.List.{[], _∷_};
 ghost use Prim.Native.Nat.{_+_, _^_, _≤_, _<_};
 ghost use lib.ListN.{length};
 ghost use Rattle.body.specs.Octets.{num, numberAt};
@@ -20,7 +21,7 @@ pub(crate) fn number(s: &[u8], at: usize, width: usize) -> u64
 
 // The same for any octet and width: 0 where no number of at most eight octets stands.
 pub fn number_at(s: &[u8], at: usize, width: usize) -> u64
-    ensures { λ r. ⌜ (r ≡ numberAt width (now (s .entry)) at) × (r < 256 ^ width) ⌝ }
+    ensures { λ r. ⌜ r ≡ numberAt width (now (s .entry)) at ⌝ }
 {
     if 8 < width {
         return 0;
@@ -32,4 +33,30 @@ pub fn number_at(s: &[u8], at: usize, width: usize) -> u64
         return 0;
     }
     number(s, at, width)
+}
+
+// The number of two octets, the first one first; below, of three, four and six.
+pub fn join_two(a: u8, b: u8) -> u16
+    ensures { λ r. ⌜ r ≡ num 2 (a ∷ b ∷ []) 0 ⌝ }
+{
+    (a as u16) * 256 + (b as u16)
+}
+
+pub fn join_three(a: u8, b: u8, c: u8) -> u32
+    ensures { λ r. ⌜ r ≡ num 3 (a ∷ b ∷ c ∷ []) 0 ⌝ }
+{
+    ((a as u32) * 256 + (b as u32)) * 256 + (c as u32)
+}
+
+pub fn join_four(a: u8, b: u8, c: u8, d: u8) -> u32
+    ensures { λ r. ⌜ r ≡ num 4 (a ∷ b ∷ c ∷ d ∷ []) 0 ⌝ }
+{
+    (((a as u32) * 256 + (b as u32)) * 256 + (c as u32)) * 256 + (d as u32)
+}
+
+pub fn join_six(a: u8, b: u8, c: u8, d: u8, e: u8, f: u8) -> u64
+    ensures { λ r. ⌜ r ≡ num 6 (a ∷ b ∷ c ∷ d ∷ e ∷ f ∷ []) 0 ⌝ }
+{
+    let high = ((a as u64) * 256 + (b as u64)) * 256 + (c as u64);
+    ((high * 256 + (d as u64)) * 256 + (e as u64)) * 256 + (f as u64)
 }

@@ -3,7 +3,7 @@ ghost use mathlib.Core.Path.{_≡_};
 ghost use Rattle.body.specs.Variables.{descriptorStep, widthOf, containerStep, valueAt};
 use crate::ContainerStep;
 use crate::DescriptorStep;
-use crate::octets::number;
+use crate::octets::join_three;
 
 // What stands at an octet of a list of descriptors.
 pub fn descriptor_step(body: &[u8], at: usize) -> DescriptorStep
@@ -18,7 +18,7 @@ pub fn descriptor_step(body: &[u8], at: usize) -> DescriptorStep
     if body.len() - at < 3 {
         return DescriptorStep::Broken;
     }
-    DescriptorStep::Has(number(body, at, 3) as u32, at + 3)
+    DescriptorStep::Has(join_three(body[at], body[at + 1], body[at + 2]), at + 3)
 }
 
 // The octets of a value by its width octet.

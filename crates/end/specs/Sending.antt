@@ -7,6 +7,7 @@ use Rattle.body.specs.declared.Found.{Found}
 use Rattle.body.specs.declared.Held.the-variants.{Nothing, Is}
 use Rattle.loopback.specs.Roles.{octetOf}
 use Rattle.loopback.specs.declared.Role.{Role}
+use Rattle.discovery.specs.declared.Discovery.{Discovery}
 use Rattle.discovery.specs.Sending.{localField, remoteField, faultFlag, allowedIn, ownInformation, clearedHeld}
 use Rattle.limit.specs.Limit.{room, chargedMeter}
 use Rattle.limit.specs.Owing.{revised, owes}
@@ -18,17 +19,20 @@ use Rattle.end.specs.State.{withMeter, withOwn, discoveryOf}
 unfoldable pub faultOf : End → Bool
 faultOf e = faultFlag (e .link .up) (e .settings .configuration)
 
--- the flags to be sent
-unfoldable pub flagsToSend : End → ℕ
-flagsToSend e =
+-- the flags to be sent, by where discovery stands and whether the link-fault flag is set
+abbrev pub flagsAt : Discovery → Bool → End → ℕ
+flagsAt standing fault e =
     joined
     (record {
-      fault = faultOf e;
+      fault = fault;
       gasp = e .own .gasp;
       critical = e .own .critical;
-      local = localField (discoveryOf e);
+      local = localField standing;
       remote = remoteField (e .peer .kept) (e .peer .held);
     })
+
+unfoldable pub flagsToSend : End → ℕ
+flagsToSend e = flagsAt (discoveryOf e) (faultOf e) e
 
 -- whether an Information frame is allowed
 unfoldable pub allowed : End → Bool

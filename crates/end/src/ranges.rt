@@ -7,8 +7,8 @@ use crate::Last;
 use crate::Link;
 use crate::Own;
 use crate::Peer;
-use crate::sending::is_allowed;
-use crate::state::in_any;
+use crate::sending::is_fault;
+use crate::state::discovery;
 use body::Held;
 use limit::Meter;
 use loopback::Role;
@@ -71,11 +71,13 @@ fn is_ranged(e: End) -> bool
     let held = peer.held;
     let last = peer.last;
     let role = e.role;
-    let owed = peer::either(!e.own.owed, is_allowed(e));
-    let used = peer::either(is_idle(role), in_any(e));
+    let standing = discovery(e);
+    let allowed = discovery::allowed_in(standing, is_fault(e));
+    let owed = peer::either(!e.own.owed, allowed);
+    let used = peer::either(is_idle(role), discovery::is_any(standing));
     let cleared = peer::either(e.link.up, is_blank(peer));
-    let standing = peer::all_four(cleared, used, limit::is_bounded(e.meter), owed);
-    let parts = peer::all_three(held_fits(held), last_fits(last), standing);
+    let kept = peer::all_four(cleared, used, limit::is_bounded(e.meter), owed);
+    let parts = peer::all_three(held_fits(held), last_fits(last), kept);
     peer::all_four(
         peer::is_sound(e.settings),
         e.link.lost < 50,

@@ -1,15 +1,16 @@
 // What every call ends with: the revision, what is owed, and what an Information frame is to say.
 ghost use mathlib.Core.Path.{_≡_};
-ghost use Rattle.end.specs.Sending.{faultOf, flagsToSend, allowed, tlvsToSend, octetChanged, dues, sends, sent};
+ghost use Rattle.end.specs.Sending.{faultOf, flagsAt, flagsToSend, tlvsToSend, octetChanged, dues, sends, sent};
 use crate::End;
 use crate::Own;
 use crate::state::discovery;
 use body::Found;
 use body::Held;
+use discovery::Discovery;
 use frame::Flags;
 use loopback::Role;
 
-fn is_fault(e: End) -> bool
+pub(crate) fn is_fault(e: End) -> bool
     ensures { λ r. ⌜ r ≡ faultOf e ⌝ }
 {
     let link = e.link;
@@ -17,26 +18,27 @@ fn is_fault(e: End) -> bool
     discovery::is_fault(link.up, settings.configuration)
 }
 
-// The flags to be sent.
-pub fn flags(e: End) -> u16
-    ensures { λ r. ⌜ r ≡ flagsToSend e ⌝ }
+// The flags to be sent, by where discovery stands and whether the link-fault flag is set.
+fn flags_at(e: End, standing: Discovery, fault: bool) -> u16
+    ensures { λ r. ⌜ r ≡ flagsAt standing fault e ⌝ }
 {
     let own = e.own;
     let peer = e.peer;
     let held = peer.held;
     frame::join_flags(Flags {
-        fault: is_fault(e),
+        fault: fault,
         gasp: own.gasp,
         critical: own.critical,
-        local: discovery::local_field(discovery(e)),
+        local: discovery::local_field(standing),
         remote: discovery::remote_field(peer.kept, held),
     })
 }
 
-pub(crate) fn is_allowed(e: End) -> bool
-    ensures { λ r. ⌜ r ≡ allowed e ⌝ }
+// The flags to be sent.
+pub fn flags(e: End) -> u16
+    ensures { λ r. ⌜ r ≡ flagsToSend e ⌝ }
 {
-    discovery::allowed_in(discovery(e), is_fault(e))
+    flags_at(e, discovery(e), is_fault(e))
 }
 
 // The TLVs of the Information frame; none with the link down.
@@ -74,10 +76,13 @@ pub(crate) fn note(before: End, due: bool, e: End) -> End
     let was = before.role;
     let is = e.role;
     let octet = octet_changed(was, is);
-    let told = peer::either(octet, flags(before) != flags(e));
+    let standing = discovery(e);
+    let fault = is_fault(e);
+    let told = peer::either(octet, flags(before) != flags_at(e, standing, fault));
+    let allowed = discovery::allowed_in(standing, fault);
     let next = Own {
         revision: limit::next_revision(octet, own.revision),
-        owed: limit::is_owed(is_allowed(e), own.owed, due, told),
+        owed: limit::is_owed(allowed, own.owed, due, told),
         ..own
     };
     End { own: next, ..e }

@@ -1,8 +1,7 @@
 // The reader of a whole frame: answers 1 to 5 in order, then the body in octet order.
 ghost use mathlib.Core.Path.{_≡_};
-ghost use Prim.Native.Nat.{_+_, _^_, _≤_, _<_};
+ghost use Prim.Native.Nat.{_≤_};
 ghost use lib.ListN.{length};
-ghost use Rattle.body.specs.Octets.{num};
 ghost use Rattle.frame.specs.Frame.{headerAnswer, decode, readingOf};
 ghost use Rattle.frame.specs.Reader.{headerOf, bodyReading, gatheredReading, listReading, loopbackReading};
 use crate::Header;
@@ -11,14 +10,6 @@ use crate::parts::body;
 use crate::parts::events_body;
 use body::Gathered;
 use body::ListKind;
-
-// The number in the width octets from octet at, all of them there.
-fn number(frame: &[u8], at: usize, width: usize) -> u64
-    requires { ⌜ (width ≤ 8) × (at + width ≤ length (now frame)) ⌝ }
-    ensures { λ r. ⌜ (r ≡ num width (now (frame .entry)) at) × (r < 256 ^ width) ⌝ }
-{
-    body::number_at(frame, at, width)
-}
 
 // The tests 1 to 4 in order: the number of the first that fails, or 0.
 fn header_answer(frame: &[u8]) -> u8
@@ -30,10 +21,11 @@ fn header_answer(frame: &[u8]) -> u8
     if frame.len() > 1514 {
         return 1;
     }
-    if number(frame, 0, 6) != 0x0180c2000002 {
+    let destination = body::join_six(frame[0], frame[1], frame[2], frame[3], frame[4], frame[5]);
+    if destination != 0x0180c2000002 {
         return 2;
     }
-    if number(frame, 12, 2) != 0x8809 {
+    if body::join_two(frame[12], frame[13]) != 0x8809 {
         return 3;
     }
     if frame[14] != 3 {
@@ -47,8 +39,8 @@ fn header_of(frame: &[u8]) -> Header
     ensures { λ r. ⌜ r ≡ headerOf (now (frame .entry)) ⌝ }
 {
     Header {
-        source: number(frame, 6, 6),
-        flags: number(frame, 15, 2) as u16,
+        source: body::join_six(frame[6], frame[7], frame[8], frame[9], frame[10], frame[11]),
+        flags: body::join_two(frame[15], frame[16]),
         code: frame[17],
     }
 }
@@ -91,7 +83,7 @@ fn body_reading(frame: &[u8], header: Header) -> Reading
         0 => gathered_reading(header, body::gather(body(frame))),
         1 => list_reading(
             body::is_whole(ListKind::Events, events_body(frame)),
-            Reading::Notification(header, number(frame, 18, 2) as u16),
+            Reading::Notification(header, body::join_two(frame[18], frame[19])),
         ),
         2 => list_reading(
             body::is_whole(ListKind::Descriptors, body(frame)),
@@ -102,7 +94,7 @@ fn body_reading(frame: &[u8], header: Header) -> Reading
             Reading::Response(header),
         ),
         4 => loopback_reading(header, frame[18]),
-        0xfe => Reading::Organization(header, number(frame, 18, 3) as u32),
+        0xfe => Reading::Organization(header, body::join_three(frame[18], frame[19], frame[20])),
         _ => Reading::Refused(5),
     }
 }

@@ -69,7 +69,7 @@ loop-again c =
       omega (arith, c .before .loop-test .taken),
       simp length-set (l .inv .1),
       omega (arith, t, l .inv .2),
-      rw (c .number-at .ensures .0 ∙ read) (l .inv .3 ∙ fields-step numberWidths (l .i) h (l .numbers) (omega (arith, l .inv .1, c .before .loop-test .taken)) s (l .position)),
+      rw (c .number-at .ensures ∙ read) (l .inv .3 ∙ fields-step numberWidths (l .i) h (l .numbers) (omega (arith, l .inv .1, c .before .loop-test .taken)) s (l .position)),
     )
 
 returns : tie.Need-returns Inv-loop μ-loop

@@ -1,6 +1,11 @@
+use Prim.Native.Nat.{ℕ, _+_}
+use mathlib.Core.Path.{refl, ap, _∙_}
+use denote.Ref.{now}
+use Rattle.body.specs.declared.DescriptorStep.the-variants.{Has}
+use Rattle.body.proofs.Numbers.{num-three}
 use borrow.Author.Tests.{eq-eqb, le-leb, le-ltb, lt-leb, lt-ltb, ne-eqb}
-use borrow.Author.Needs.{needs}
 use Rattle.body.specs.Variables.{descriptorStep}
+use borrow.Author.Needs.{needs}
 use Rattle.body.proofs.variables.descriptor_step.Statement.{statement}
 use Rattle.body.proofs.variables.descriptor_step.Tie as tie
 
@@ -22,18 +27,32 @@ returns-3 : tie.Need-returns-3
 unfolding descriptorStep
 returns-3 c = simp (lt-ltb _ _ (c .if3 .taken), ne-eqb _ _ (c .before .if2 .left), lt-leb _ _ (c .before .before .before .if1 .left))
 
-number-requires : tie.Need-number-requires
-number-requires c κs = search needs
+shared-slice-read-join-three : tie.Need-shared-slice-read-join-three
+shared-slice-read-join-three c = search needs
 
-cast-t9 : tie.Need-cast-t9
-cast-t9 c = search needs
+add-join-three : tie.Need-add-join-three
+add-join-three c = search needs
 
-add-t3 : tie.Need-add-t3
-add-t3 c = search needs
+shared-slice-read-join-three-2 : tie.Need-shared-slice-read-join-three-2
+shared-slice-read-join-three-2 c = search needs
+
+add-join-three-2 : tie.Need-add-join-three-2
+add-join-three-2 c = search needs
+
+shared-slice-read-join-three-3 : tie.Need-shared-slice-read-join-three-3
+shared-slice-read-join-three-3 c = search needs
+
+join-three-requires : tie.Need-join-three-requires
+join-three-requires c κs = search needs
+
+add-t14 : tie.Need-add-t14
+add-t14 c = search needs
 
 returns-4 : tie.Need-returns-4
 unfolding descriptorStep
-returns-4 c = simp (lt-leb _ _ (c .before .before .before .before .if1 .left), ne-eqb _ _ (c .before .before .if2 .left), le-ltb _ _ (c .before .if3 .left), ← c .number .ensures .0)
+returns-4 c = let a = c .before .before .before .before .before .before .before .before .before .args in
+    let s = now (a .body) in
+    simp (lt-leb _ _ (c .before .before .before .before .before .before .before .if1 .left), ne-eqb _ _ (c .before .before .before .before .before .if2 .left), le-ltb _ _ (c .before .before .before .before .if3 .left)) (ap (λ (d : ℕ). Has d (a .at + 3)) (c .join-three .ensures ∙ num-three s (a .at) _ _ _ refl refl refl))
 
 pub descriptor-step-spec : {M : Type 1} → statement M
 descriptor-step-spec =
@@ -44,7 +63,11 @@ descriptor-step-spec =
     returns-2
     sub-if3
     returns-3
-    number-requires
-    cast-t9
-    add-t3
+    shared-slice-read-join-three
+    add-join-three
+    shared-slice-read-join-three-2
+    add-join-three-2
+    shared-slice-read-join-three-3
+    join-three-requires
+    add-t14
     returns-4)

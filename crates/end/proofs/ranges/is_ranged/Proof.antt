@@ -1,14 +1,22 @@
 use Prim.Native.Nat.{_^_}
 use native.Mathlib.Omega.{arith}
 use borrow.Author.Tests.{lt-ltb}
-use Rattle.end.specs.Ranges.{ranged}
 use mathlib.Core.Bool.{and-true}
+use Rattle.end.specs.State.{inAny}
+use Rattle.end.specs.Sending.{allowed}
+use Rattle.end.specs.Ranges.{ranged}
 use borrow.Author.Needs.{needs}
 use Rattle.end.proofs.ranges.is_ranged.Statement.{statement}
 use Rattle.end.proofs.ranges.is_ranged.Tie as tie
 
-is-allowed-requires : tie.Need-is-allowed-requires
-is-allowed-requires c κs = search needs
+discovery-requires : tie.Need-discovery-requires
+discovery-requires c κs = search needs
+
+is-fault-requires : tie.Need-is-fault-requires
+is-fault-requires c κs = search needs
+
+allowed-in-requires : tie.Need-allowed-in-requires
+allowed-in-requires c κs = search needs
 
 either-requires : tie.Need-either-requires
 either-requires c κs = search needs
@@ -16,8 +24,8 @@ either-requires c κs = search needs
 is-idle-requires : tie.Need-is-idle-requires
 is-idle-requires c κs = search needs
 
-in-any-requires : tie.Need-in-any-requires
-in-any-requires c κs = search needs
+is-any-requires : tie.Need-is-any-requires
+is-any-requires c κs = search needs
 
 either-requires-2 : tie.Need-either-requires-2
 either-requires-2 c κs = search needs
@@ -50,10 +58,10 @@ all-four-requires-2 : tie.Need-all-four-requires-2
 all-four-requires-2 c κs = search needs
 
 returns : tie.Need-returns
-unfolding ranged
+unfolding ranged inAny allowed
 returns c =
-    let e = c .before .before .before .before .before .before .before .before .before .before .before .before .before .before .before .before .before .before .args .e in
-    let g = c .before .before .before .before .before .before .before .before .before .before .before .before .before .before .before .before .before .before .good in
+    let e = c .before .before .before .before .before .before .before .before .before .before .before .before .before .before .before .before .before .before .before .before .args .e in
+    let g = c .before .before .before .before .before .before .before .before .before .before .before .before .before .before .before .before .before .before .before .before .good in
     simp (
       c .all-four2 .ensures,
       c .before .before .before .is-sound .ensures,
@@ -65,10 +73,12 @@ returns c =
       c .before .before .before .before .before .before .before .before .before .either3 .ensures,
       c .before .before .before .before .before .before .before .before .before .before .is-blank .ensures,
       c .before .before .before .before .before .before .before .before .before .before .before .either2 .ensures,
-      c .before .before .before .before .before .before .before .before .before .before .before .before .in-any .ensures,
+      c .before .before .before .before .before .before .before .before .before .before .before .before .is-any .ensures,
       c .before .before .before .before .before .before .before .before .before .before .before .before .before .is-idle .ensures,
       c .before .before .before .before .before .before .before .before .before .before .before .before .before .before .either .ensures,
-      c .before .before .before .before .before .before .before .before .before .before .before .before .before .before .before .is-allowed .ensures,
+      c .before .before .before .before .before .before .before .before .before .before .before .before .before .before .before .before .allowed-in .ensures,
+      c .before .before .before .before .before .before .before .before .before .before .before .before .before .before .before .before .before .is-fault .ensures,
+      c .before .before .before .before .before .before .before .before .before .before .before .before .before .before .before .before .before .before .discovery .ensures,
       lt-ltb (e .settings .vendor) (2 ^ 32) (omega (arith, g)),
       lt-ltb (e .own .revision) (2 ^ 16) (omega (arith, g)),
       lt-ltb (e .own .number) (2 ^ 16) (omega (arith, g)),
@@ -79,10 +89,12 @@ pub is-ranged-spec : {M : Type 1} → statement M
 is-ranged-spec =
     tie.close
     (tie.spec
-    is-allowed-requires
+    discovery-requires
+    is-fault-requires
+    allowed-in-requires
     either-requires
     is-idle-requires
-    in-any-requires
+    is-any-requires
     either-requires-2
     is-blank-requires
     either-requires-3

@@ -1,10 +1,11 @@
 use Prim.Native.Nat.{ℕ}
-use mathlib.Core.Path.{_≡_}
-use lib.Dec.{eqb}
-use mathlib.Core.Path.{ap, _∙_}
+use mathlib.Core.Path.{_≡_, ap, _∙_}
+use denote.Ref.{now}
 use borrow.Author.Tests.{ne-eqb}
-use Rattle.frame.specs.Reader.{bodyReading, gatheredReading}
+use lib.Dec.{eqb}
+use Rattle.body.specs.Octets.{num}
 use Rattle.body.specs.Gathering.{gatheredOf}
+use Rattle.frame.specs.Reader.{bodyReading, gatheredReading}
 use borrow.Author.Needs.{needs}
 use Rattle.frame.proofs.reader.body_reading.Statement.{statement}
 use Rattle.frame.proofs.reader.body_reading.Tie as tie
@@ -28,11 +29,14 @@ events-body-requires c κs = search needs
 is-whole-requires : tie.Need-is-whole-requires
 is-whole-requires c κs = search needs
 
-number-requires : tie.Need-number-requires
-number-requires c κs = search needs
+shared-slice-read-join-two : tie.Need-shared-slice-read-join-two
+shared-slice-read-join-two c = search needs
 
-cast-t11 : tie.Need-cast-t11
-cast-t11 c = search needs
+shared-slice-read-join-two-2 : tie.Need-shared-slice-read-join-two-2
+shared-slice-read-join-two-2 c = search needs
+
+join-two-requires : tie.Need-join-two-requires
+join-two-requires c κs = search needs
 
 list-reading-requires : tie.Need-list-reading-requires
 list-reading-requires c κs = search needs
@@ -61,11 +65,17 @@ shared-slice-read-loopback-reading c = search needs
 loopback-reading-requires : tie.Need-loopback-reading-requires
 loopback-reading-requires c κs = search needs
 
-number-requires-2 : tie.Need-number-requires-2
-number-requires-2 c κs = search needs
+shared-slice-read-join-three : tie.Need-shared-slice-read-join-three
+shared-slice-read-join-three c = search needs
 
-cast-t24 : tie.Need-cast-t24
-cast-t24 c = search needs
+shared-slice-read-join-three-2 : tie.Need-shared-slice-read-join-three-2
+shared-slice-read-join-three-2 c = search needs
+
+shared-slice-read-join-three-3 : tie.Need-shared-slice-read-join-three-3
+shared-slice-read-join-three-3 c = search needs
+
+join-three-requires : tie.Need-join-three-requires
+join-three-requires c κs = search needs
 
 returns : tie.Need-returns
 unfolding bodyReading
@@ -74,8 +84,9 @@ returns c = let e = c .before .before .before .match .keys1 in
 
 returns-2 : tie.Need-returns-2
 unfolding bodyReading
-returns-2 c = let e = c .before .before .before .before .match .keys2 in
-    simp (at e 0, at e 1, c .list-reading .ensures, c .before .before .is-whole .ensures, c .before .before .before .events-body .ensures, c .before .number .ensures .0)
+returns-2 c = let e = c .before .before .before .before .before .before .match .keys2 in
+    let n : c .before .join-two .result ≡ num 2 (now (c .before .before .before .before .before .before .before .before .args .frame)) 18 = c .before .join-two .ensures in
+    simp (at e 0, at e 1, c .list-reading .ensures, c .before .before .before .before .is-whole .ensures, c .before .before .before .before .before .events-body .ensures, n)
 
 returns-3 : tie.Need-returns-3
 unfolding bodyReading
@@ -94,8 +105,9 @@ returns-5 c = let e = c .before .before .match .keys5 in
 
 returns-6 : tie.Need-returns-6
 unfolding bodyReading
-returns-6 c = let e = c .before .match .keys6 in
-    simp (at e 0, at e 1, at e 2, at e 3, at e 4, at e 0xfe, c .number2 .ensures .0)
+returns-6 c = let e = c .before .before .before .before .match .keys6 in
+    let n : c .join-three .result ≡ num 3 (now (c .before .before .before .before .before .before .args .frame)) 18 = c .join-three .ensures in
+    simp (at e 0, at e 1, at e 2, at e 3, at e 4, at e 0xfe, n)
 
 returns-7 : tie.Need-returns-7
 unfolding bodyReading
@@ -117,8 +129,9 @@ body-reading-spec =
     gathered-reading-requires
     events-body-requires
     is-whole-requires
-    number-requires
-    cast-t11
+    shared-slice-read-join-two
+    shared-slice-read-join-two-2
+    join-two-requires
     list-reading-requires
     body-requires-2
     is-whole-requires-2
@@ -128,8 +141,10 @@ body-reading-spec =
     list-reading-requires-3
     shared-slice-read-loopback-reading
     loopback-reading-requires
-    number-requires-2
-    cast-t24
+    shared-slice-read-join-three
+    shared-slice-read-join-three-2
+    shared-slice-read-join-three-3
+    join-three-requires
     returns
     returns-2
     returns-3
