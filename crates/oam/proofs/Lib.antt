@@ -3,6 +3,4 @@ pub mod Written
 pub mod Stepped
 pub mod LentNumbers
 pub mod Lengths
-pub mod Moving
-pub mod Taking
 pub mod Again

@@ -14,7 +14,7 @@ use Rattle.end.specs.declared.Shown.{Shown}
 use Rattle.end.specs.declared.Shown.the-variants.{Nothing, Frame, Events}
 use Rattle.link.specs.declared.Outcome.{Outcome}
 use Rattle.packing.specs.Octets.{packedIn}
-use Rattle.oam.specs.Outcomes.{Showing}
+use Rattle.showing.specs.Showing.{Showing}
 use Rattle.oam.specs.Machine.{kindOf, steppedNumber, steppedState, Stepping, Freshly, heardShown, Receiving}
 
 pub kind-small : (shown : Shown) → kindOf shown < 4

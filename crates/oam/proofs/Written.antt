@@ -1,12 +1,12 @@
--- What an entry gives back: what its writer answered and left, or an answer alone.
+-- What an entry that writes gives back: what its writer answered and left, or 10 alone.
 use Prim.Native.Nat.{ℕ}
 use mathlib.Core.Path.{_≡_, refl, ap, _∙_}
-use mathlib.Core.List.{List, []}
+use mathlib.Core.List.{List}
 use mathlib.Core.Bool.{Bool, true, false}
 use Rattle.frame.specs.Frame.{Message}
 use Rattle.writer.specs.Writing.{Writing}
 use Rattle.writer.specs.declared.Written.{Written}
-use Rattle.oam.specs.Outcomes.{outcomeOf, shows, Showing}
+use Rattle.oam.specs.Outcomes.{outcomeOf}
 use Rattle.oam.specs.Writing.{Outcome}
 
 module _ {m : Message} {entry exit : List ℕ} {w : Written} {answer : ℕ} where
@@ -19,7 +19,3 @@ module _ {m : Message} {entry exit : List ℕ} {w : Written} {answer : ℕ} wher
 
 pub unformed : (m : Message) (entry : List ℕ) (b : Bool) → b ≡ false → Outcome b m entry 10 entry
 unformed m entry b f = rw f (record { answers = refl; output = refl })
-
--- an answer, and a lent slice as it was
-pub untouched : {answer : ℕ} {entry : List ℕ} → Showing (shows answer []) entry answer entry
-untouched = record { answers = refl; stored = refl }

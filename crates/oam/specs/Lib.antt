@@ -2,8 +2,5 @@
 pub mod Outcomes
 pub mod Lending
 pub mod Writing
-pub mod Reading
-pub mod Parts
 pub mod Logging
-pub mod Taking
 pub mod Machine

@@ -21,8 +21,8 @@ use Rattle.end.specs.State.{freshOf, discoveryOf}
 use Rattle.link.specs.Requests.{Asked, requestOf, requestOutput}
 use Rattle.packing.specs.Numbers.{numbersOf}
 use Rattle.packing.specs.Octets.{packedIn, unpacked}
-use Rattle.oam.specs.Outcomes.{Shown, shows, roomy}
-use Rattle.oam.specs.Reading.{headerShown}
+use Rattle.showing.specs.Showing.{Shown, shows, roomy}
+use Rattle.showing.specs.Reading.{headerShown}
 
 -- ---- what a call comes to
 

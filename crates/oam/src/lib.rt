@@ -3,8 +3,7 @@
 // An entry takes numbers and lent slices and trusts none of them. A slice is two arguments to its caller, where it begins and
 // how many elements it has. An entry that writes answers an outcome: one number, the paper's answer in its low 8 bits, 0
 // where it is accepted, and the length that was written above them, of which nothing is cut off (`proofs/Lengths.antt`). A
-// refusal leaves every lent slice as it was. Who takes the parts of a frame in order meets those of the message that it says
-// (`proofs/Taking.antt`).
+// refusal leaves every lent slice as it was. What an entry reads is shown as numbers in a lent slice (the crate `showing`).
 //
 // An end of the link is kept in 48 octets that the caller lends to each call (the crate `packing`). The outcome of a call has
 // the State octet after it in bits 40 to 47, and what is shown in bits 48 and 49.
@@ -13,7 +12,6 @@ mod lending;
 mod logging;
 mod machine;
 mod outcomes;
-mod parts;
 mod reading;
 mod writing;
 
@@ -29,7 +27,7 @@ pub use machine::oam_receive;
 pub use machine::oam_report;
 pub use machine::oam_show;
 pub use machine::oam_tick;
-pub use parts::oam_part;
+pub use reading::oam_part;
 pub use reading::oam_read;
 pub use writing::oam_write_information;
 pub use writing::oam_write_loopback;

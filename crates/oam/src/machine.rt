@@ -7,16 +7,16 @@ ghost use Rattle.link.specs.Ticks.{tickOf, tickOutput};
 ghost use Rattle.link.specs.Reports.{reportOf, reportOutput};
 ghost use Rattle.link.specs.Hearing.{receiveOf, receiveOutput};
 ghost use Rattle.packing.specs.Octets.{unpacked};
-ghost use Rattle.oam.specs.Outcomes.{Showing};
+ghost use Rattle.showing.specs.Showing.{Showing};
 ghost use Rattle.oam.specs.Machine.{kindOf, steppedNumber, steppedState, Stepping, settingsOf, freshFor, Freshly, reportFrom, foundFor, heardShown, roomyEnd, Receiving, endNumbers, endShown};
-use crate::outcomes::show;
-use crate::reading::show_header;
 use end::End;
 use end::FreshEnd;
 use end::Report;
 use end::Shown;
 use link::Outcome;
 use peer::Settings;
+use showing::show;
+use showing::show_header;
 
 fn kind(shown: Shown) -> u64
     ensures { λ r. ⌜ r ≡ kindOf shown ⌝ }
@@ -123,9 +123,8 @@ pub extern "C" fn oam_report(report: u8, state: &mut [u8], out: &mut [u8]) -> u6
     }
 }
 
-// What is heard of an accepted frame, in a header of at least four numbers.
+// What is heard of an accepted frame.
 fn show_heard(lent: &mut [u64], shown: Shown) -> u64
-    requires { ⌜ 4 ≤ length (now lent) ⌝ }
     ensures { λ r. ⌜ Showing (heardShown shown) (now (lent .entry)) r (now (lent .exit)) ⌝ }
 {
     match shown {

@@ -1,7 +1,7 @@
 -- `oam::machine::oam_show` meets its contract.
 use mathlib.Core.Path.{sym, _∙_}
 use borrow.Author.Tests.{lt-ltb, le-ltb}
-use Rattle.oam.proofs.Written.{untouched}
+use Rattle.showing.proofs.Untouched.{untouched}
 use borrow.Author.Needs.{needs}
 use Rattle.oam.proofs.machine.oam_show.Statement.{statement}
 use Rattle.oam.proofs.machine.oam_show.Tie as tie

@@ -1,7 +1,7 @@
--- `oam::reading::show_reading` meets its contract.
+-- `showing::reading::show_reading` meets its contract.
 use borrow.Author.Needs.{needs}
-use Rattle.oam.proofs.reading.show_reading.Statement.{statement}
-use Rattle.oam.proofs.reading.show_reading.Tie as tie
+use Rattle.showing.proofs.reading.show_reading.Statement.{statement}
+use Rattle.showing.proofs.reading.show_reading.Tie as tie
 
 enum-known-reading : tie.Need-enum-known-reading
 enum-known-reading c = search needs

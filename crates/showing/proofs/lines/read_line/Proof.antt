@@ -1,11 +1,11 @@
--- `oam::logging::oam_log_read` meets its contract.
+-- `showing::lines::read_line` meets its contract.
 use mathlib.Core.Path.{sym, _∙_}
 use borrow.Author.Tests.{lt-ltb, le-ltb}
-use Rattle.oam.specs.Logging.{textShown}
-use Rattle.oam.proofs.Written.{untouched}
+use Rattle.showing.specs.Lines.{textShown}
+use Rattle.showing.proofs.Untouched.{untouched}
 use borrow.Author.Needs.{needs}
-use Rattle.oam.proofs.logging.oam_log_read.Statement.{statement}
-use Rattle.oam.proofs.logging.oam_log_read.Tie as tie
+use Rattle.showing.proofs.lines.read_line.Statement.{statement}
+use Rattle.showing.proofs.lines.read_line.Tie as tie
 
 returns : tie.Need-returns
 unfolding textShown
@@ -37,8 +37,8 @@ returns-3 : tie.Need-returns-3
 unfolding textShown
 returns-3 c = rw (le-ltb _ _ (c .before .before .before .before .before .before .before .before .if1 .left), sym (c .before .before .before .before .before .before .before .read-line .ensures) ∙ c .before .before .before .before .before .line .given .1) (c .before .before .show-line .ensures)
 
-pub oam-log-read-spec : {M : Type 1} → statement M
-oam-log-read-spec =
+pub read-line-spec : {M : Type 1} → statement M
+read-line-spec =
     tie.close
     (tie.spec
     returns

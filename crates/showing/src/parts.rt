@@ -1,14 +1,13 @@
-// The entry that shows the parts of a frame's body, one a call, as numbers in a slice that the caller lends.
+// The parts of a frame's body, shown one a call.
 ghost use mathlib.Core.List.{[], _∷_};
-ghost use Prim.Native.Nat.{_≤_};
 ghost use lib.ListN.{length};
 ghost use Rattle.body.specs.Information.{informationStep};
 ghost use Rattle.body.specs.Events.{eventStep};
 ghost use Rattle.body.specs.Variables.{descriptorStep, containerStep};
 ghost use Rattle.writer.specs.Encode.{informationValues, eventValues};
-ghost use Rattle.oam.specs.Outcomes.{shows, Showing};
-ghost use Rattle.oam.specs.Parts.{informationShown, eventShown, descriptorShown, containerShown, partShown};
-use crate::outcomes::show;
+ghost use Rattle.showing.specs.Showing.{shows, Showing};
+ghost use Rattle.showing.specs.Parts.{informationShown, eventShown, descriptorShown, containerShown, partShown};
+use crate::storing::show;
 use body::ContainerStep;
 use body::DescriptorStep;
 use body::Event;
@@ -19,7 +18,6 @@ use frame::Reading;
 
 // A skipped part: only the octet after it is shown.
 fn show_next(lent: &mut [u64], next: usize) -> u64
-    requires { ⌜ 8 ≤ length (now lent) ⌝ }
     ensures { λ r. ⌜ Showing (shows 3 (next ∷ [])) (now (lent .entry)) r (now (lent .exit)) ⌝ }
 {
     let numbers: [u64; 1] = [next as u64];
@@ -28,7 +26,6 @@ fn show_next(lent: &mut [u64], next: usize) -> u64
 
 // The fields of an Information TLV.
 fn show_fields(lent: &mut [u64], answer: u64, i: Information, next: usize) -> u64
-    requires { ⌜ 8 ≤ length (now lent) ⌝ }
     ensures { λ r. ⌜ Showing (shows answer (next ∷ informationValues i)) (now (lent .entry)) r (now (lent .exit)) ⌝ }
 {
     let numbers: [u64; 8] = [
@@ -46,7 +43,6 @@ fn show_fields(lent: &mut [u64], answer: u64, i: Information, next: usize) -> u6
 
 // What stands at an octet of an Information frame.
 fn show_information(lent: &mut [u64], frame: &[u8], at: usize) -> u64
-    requires { ⌜ 8 ≤ length (now lent) ⌝ }
     ensures { λ r. ⌜ Showing (informationShown (informationStep (now (frame .entry)) at)) (now (lent .entry)) r (now (lent .exit)) ⌝ }
 {
     match body::information_step(frame, at) {
@@ -60,7 +56,6 @@ fn show_information(lent: &mut [u64], frame: &[u8], at: usize) -> u64
 
 // The type and the values of an event.
 fn show_values(lent: &mut [u64], event: Event, next: usize) -> u64
-    requires { ⌜ 8 ≤ length (now lent) ⌝ }
     ensures { λ r. ⌜ Showing (shows 6 (next ∷ event .kind ∷ eventValues event)) (now (lent .entry)) r (now (lent .exit)) ⌝ }
 {
     let numbers: [u64; 8] = [
@@ -78,7 +73,6 @@ fn show_values(lent: &mut [u64], event: Event, next: usize) -> u64
 
 // What stands at an octet of an Event Notification frame.
 fn show_event(lent: &mut [u64], frame: &[u8], at: usize) -> u64
-    requires { ⌜ 8 ≤ length (now lent) ⌝ }
     ensures { λ r. ⌜ Showing (eventShown (eventStep (now (frame .entry)) at)) (now (lent .entry)) r (now (lent .exit)) ⌝ }
 {
     match body::event_step(frame, at) {
@@ -91,7 +85,6 @@ fn show_event(lent: &mut [u64], frame: &[u8], at: usize) -> u64
 
 // What stands at an octet of a Variable Request frame.
 fn show_descriptor(lent: &mut [u64], frame: &[u8], at: usize) -> u64
-    requires { ⌜ 8 ≤ length (now lent) ⌝ }
     ensures { λ r. ⌜ Showing (descriptorShown (descriptorStep (now (frame .entry)) at)) (now (lent .entry)) r (now (lent .exit)) ⌝ }
 {
     match body::descriptor_step(frame, at) {
@@ -106,7 +99,6 @@ fn show_descriptor(lent: &mut [u64], frame: &[u8], at: usize) -> u64
 
 // What stands at an octet of a Variable Response frame.
 fn show_container(lent: &mut [u64], frame: &[u8], at: usize) -> u64
-    requires { ⌜ 8 ≤ length (now lent) ⌝ }
     ensures { λ r. ⌜ Showing (containerShown (containerStep (now (frame .entry)) at)) (now (lent .entry)) r (now (lent .exit)) ⌝ }
 {
     match body::container_step(frame, at) {
@@ -128,8 +120,7 @@ fn show_container(lent: &mut [u64], frame: &[u8], at: usize) -> u64
 // TLV, 6 an event, 7 a descriptor, 8 a container with a value, 9 one with an indication; 0 for a frame that is refused or
 // whose code has no parts, and for a part slice shorter than 10. The octet after it is stored first, then its numbers. The
 // parts of a frame begin at octet 18, or at 20 where its code is 01.
-#[no_mangle]
-pub extern "C" fn oam_part(frame: &[u8], at: usize, part: &mut [u64]) -> u64
+pub fn part(frame: &[u8], at: usize, part: &mut [u64]) -> u64
     ensures { λ r. ⌜ Showing (partShown (now (frame .entry)) at (length (now (part .entry)))) (now (part .entry)) r (now (part .exit)) ⌝ }
 {
     if part.len() < 10 {

@@ -1,11 +1,11 @@
--- `oam::reading::oam_read` meets its contract.
+-- `showing::reading::read` meets its contract.
 use mathlib.Core.Path.{sym}
 use borrow.Author.Tests.{lt-ltb, le-ltb}
-use Rattle.oam.specs.Reading.{frameShown}
-use Rattle.oam.proofs.Written.{untouched}
+use Rattle.showing.specs.Reading.{frameShown}
+use Rattle.showing.proofs.Untouched.{untouched}
 use borrow.Author.Needs.{needs}
-use Rattle.oam.proofs.reading.oam_read.Statement.{statement}
-use Rattle.oam.proofs.reading.oam_read.Tie as tie
+use Rattle.showing.proofs.reading.read.Statement.{statement}
+use Rattle.showing.proofs.reading.read.Tie as tie
 
 returns : tie.Need-returns
 unfolding frameShown
@@ -24,6 +24,6 @@ returns-2 : tie.Need-returns-2
 unfolding frameShown
 returns-2 c = rw (le-ltb _ _ (c .before .before .before .before .before .if1 .left), sym (c .before .before .before .read .ensures)) (c .before .before .show-reading .ensures)
 
-pub oam-read-spec : {M : Type 1} → statement M
-oam-read-spec =
+pub read-spec : {M : Type 1} → statement M
+read-spec =
     tie.close (tie.spec returns read-requires show-reading-requires same-length returns-2)

@@ -1,5 +1,5 @@
--- What the entry that shows the parts of a frame's body shows: 1 the end, 2 something broken, 3 something to be skipped, else
--- the part's kind; and as numbers the octet after it, then what the part says.
+-- What is shown of the parts of a frame's body: 1 the end, 2 something broken, 3 something to be skipped, else the part's kind;
+-- and as numbers the octet after it, then what the part says.
 use Prim.Native.Nat.{ℕ, _-_}
 use mathlib.Core.List.{List, [], _∷_}
 use Rattle.body.specs.Information.{informationStep}
@@ -17,7 +17,7 @@ use Rattle.body.specs.declared.DescriptorStep.the-variants.{End as DescriptorEn
 use Rattle.body.specs.declared.ContainerStep.{ContainerStep}
 use Rattle.body.specs.declared.ContainerStep.the-variants.{End as ContainerEnd, Broken as ContainerBroken, Value, Indication}
 use Rattle.writer.specs.Encode.{informationValues, eventValues}
-use Rattle.oam.specs.Outcomes.{Shown, shows, roomy}
+use Rattle.showing.specs.Showing.{Shown, shows, roomy}
 
 -- a Local or a Remote TLV, and its seven fields
 abbrev pub informationShown : InformationStep → Shown

@@ -1,9 +1,9 @@
--- `oam::parts::show_event` meets its contract.
+-- `showing::parts::show_event` meets its contract.
 use mathlib.Core.Path.{sym, _∙_}
-use Rattle.oam.proofs.Written.{untouched}
+use Rattle.showing.proofs.Untouched.{untouched}
 use borrow.Author.Needs.{needs}
-use Rattle.oam.proofs.parts.show_event.Statement.{statement}
-use Rattle.oam.proofs.parts.show_event.Tie as tie
+use Rattle.showing.proofs.parts.show_event.Statement.{statement}
+use Rattle.showing.proofs.parts.show_event.Tie as tie
 
 event-step-requires : tie.Need-event-step-requires
 event-step-requires c κs = search needs

@@ -1,9 +1,9 @@
--- `oam::parts::show_descriptor` meets its contract.
+-- `showing::parts::show_descriptor` meets its contract.
 use mathlib.Core.Path.{sym, _∙_}
-use Rattle.oam.proofs.Written.{untouched}
+use Rattle.showing.proofs.Untouched.{untouched}
 use borrow.Author.Needs.{needs}
-use Rattle.oam.proofs.parts.show_descriptor.Statement.{statement}
-use Rattle.oam.proofs.parts.show_descriptor.Tie as tie
+use Rattle.showing.proofs.parts.show_descriptor.Statement.{statement}
+use Rattle.showing.proofs.parts.show_descriptor.Tie as tie
 
 descriptor-step-requires : tie.Need-descriptor-step-requires
 descriptor-step-requires c κs = search needs

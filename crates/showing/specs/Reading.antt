@@ -1,11 +1,11 @@
--- What the entry that reads a frame shows.
+-- What is shown of a frame.
 use Prim.Native.Nat.{ℕ}
 use mathlib.Core.List.{List, [], _∷_}
 use Rattle.frame.specs.Frame.{decode, readingOf}
 use Rattle.frame.specs.declared.Header.{Header}
 use Rattle.frame.specs.declared.Reading.{Reading}
 use Rattle.frame.specs.declared.Reading.the-variants.{Refused, Information, Notification, Request, Response, Loopback, Organization}
-use Rattle.oam.specs.Outcomes.{Shown, shows, roomy}
+use Rattle.showing.specs.Showing.{Shown, shows, roomy}
 
 -- "A reading shows source address, flags, code", and the body's fixed number
 abbrev pub headerShown : Header → ℕ → Shown

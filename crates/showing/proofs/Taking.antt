@@ -15,8 +15,8 @@ use Rattle.body.proofs.Walks.{Leads, enough}
 use Rattle.body.proofs.Gathering.{information-leads}
 use Rattle.body.proofs.Places.{event-leads, descriptor-leads, container-leads}
 use Rattle.frame.proofs.Stepping.{steps-give-parts}
-use Rattle.oam.specs.Taking.{Taken}
-use Rattle.oam.proofs.Moving.{moved, walk-moved, information-moved, event-moved, descriptor-moved, container-moved}
+use Rattle.showing.specs.Taking.{Taken}
+use Rattle.showing.proofs.Moving.{moved, walk-moved, information-moved, event-moved, descriptor-moved, container-moved}
 
 -- the walk over a frame from octet k is the walk over its body there
 module _ {P : Type 0} (next : List ℕ → ℕ → Next P) (leads : (s : List ℕ) → Leads (next s) (length s))

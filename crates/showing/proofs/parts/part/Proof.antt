@@ -1,11 +1,11 @@
--- `oam::parts::oam_part` meets its contract.
+-- `showing::parts::part` meets its contract.
 use mathlib.Core.Path.{sym, _∙_}
 use borrow.Author.Tests.{lt-ltb, le-ltb}
-use Rattle.oam.specs.Parts.{partShown}
-use Rattle.oam.proofs.Written.{untouched}
+use Rattle.showing.specs.Parts.{partShown}
+use Rattle.showing.proofs.Untouched.{untouched}
 use borrow.Author.Needs.{needs}
-use Rattle.oam.proofs.parts.oam_part.Statement.{statement}
-use Rattle.oam.proofs.parts.oam_part.Tie as tie
+use Rattle.showing.proofs.parts.part.Statement.{statement}
+use Rattle.showing.proofs.parts.part.Tie as tie
 
 returns : tie.Need-returns
 unfolding partShown
@@ -87,8 +87,8 @@ returns-8 : tie.Need-returns-8
 unfolding partShown
 returns-8 c = rw (le-ltb _ _ (c .before .before .before .if1 .left), sym (c .before .before .read .ensures) ∙ c .enum-told7 .given .1) untouched
 
-pub oam-part-spec : {M : Type 1} → statement M
-oam-part-spec =
+pub part-spec : {M : Type 1} → statement M
+part-spec =
     tie.close
     (tie.spec
     returns

@@ -1,30 +1,43 @@
--- `oam::outcomes::show` meets its contract.
-use Prim.Native.Nat.{ℕ, _+_, _-_, _≤_, _<_}
+-- `showing::storing::show` meets its contract.
+use Prim.Native.Nat.{ℕ, suc, _+_, _-_, _≤_, _<_}
 use mathlib.Core.Path.{_≡_, refl, sym, ap, _∙_}
-use mathlib.Core.List.{List}
+use mathlib.Core.List.{List, [], _∷_}
 use native.Mathlib.Nat.{zero-add}
 use native.Mathlib.Omega.{arith}
 use borrow.Author.Needs.{needs}
 use denote.Ref.{now}
 use lib.ListN.{length, getD, set, drop, drop-of-length-le}
-use lib.Seq.{sets}
+use lib.Seq.{sets, set-out}
 use Rattle.writer.proofs.Stores.{next-octet}
-use Rattle.oam.proofs.outcomes.show.Statement.{statement}
-use Rattle.oam.proofs.outcomes.show.Tie as tie
+use Rattle.showing.proofs.storing.show.Statement.{statement}
+use Rattle.showing.proofs.storing.show.Tie as tie
 
 -- a turn of the loop
 next-number : (l : List ℕ) (i : ℕ) (xs : List ℕ) → i < length xs → sets l i (drop i xs) ≡ sets (set l i (getD xs i 0)) (i + 1) (drop (i + 1) xs)
 next-number l i xs h = rw (zero-add i, zero-add (i + 1)) at (next-octet l 0 i xs h)
 
+-- past the end of a list nothing is stored
+none-past : (l : List ℕ) (i : ℕ) (xs : List ℕ) → length l ≤ i → sets l i xs ≡ l
+none-past l i [] h = refl
+none-past l i (x ∷ xs) h = ap (λ (m : List ℕ). sets m (suc i) xs) (set-out l i x h) ∙ none-past l (suc i) xs (omega (arith, h))
+
 abbrev Inv-loop : tie.InvT-loop
 Inv-loop lent₀ answer numbers i₀ lent i =
-    (i ≤ length numbers) × (length lent ≡ length lent₀) × (sets lent₀ 0 numbers ≡ sets lent i (drop i numbers))
+    (length lent ≡ length lent₀) × (sets lent₀ 0 numbers ≡ sets lent i (drop i numbers))
 
 abbrev μ-loop : tie.MeasureT-loop
 μ-loop lent₀ answer numbers i₀ lent i = length numbers - i
 
 loop-holds : tie.Need-loop-holds Inv-loop μ-loop
-loop-holds c = (omega arith, search needs, refl)
+loop-holds c = (search needs, refl)
+
+same-length : tie.Need-same-length Inv-loop μ-loop
+same-length c = search needs
+
+returns : tie.Need-returns Inv-loop μ-loop
+returns c =
+    let l = c .before .before .loop in
+    record { answers = refl; stored = sym (l .inv .1 ∙ none-past (l .lent) (l .i) (drop (l .i) (now (c .before .before .before .args .numbers))) (c .if1 .taken)) }
 
 mul-lent : tie.Need-mul-lent Inv-loop μ-loop
 mul-lent c = search needs
@@ -46,18 +59,18 @@ loop-less c = search needs
 
 loop-again : tie.Need-loop-again Inv-loop μ-loop
 loop-again c =
-    let l = c .before .before .loop in
-    (omega arith, search needs, l .inv .2 ∙ next-number (l .lent) (l .i) (now (c .before .before .before .args .numbers)) (c .before .loop-test .taken))
+    let l = c .before .before .before .loop in
+    (search needs, l .inv .1 ∙ next-number (l .lent) (l .i) (now (c .before .before .before .before .args .numbers)) (c .before .before .loop-test .taken))
 
-same-length : tie.Need-same-length Inv-loop μ-loop
-same-length c = search needs
+same-length-2 : tie.Need-same-length-2 Inv-loop μ-loop
+same-length-2 c = search needs
 
-returns : tie.Need-returns Inv-loop μ-loop
-returns c =
+returns-2 : tie.Need-returns-2 Inv-loop μ-loop
+returns-2 c =
     let a = c .before .before .args in
     let l = c .before .loop in
     let h : length (now (a .numbers)) ≤ l .i = omega arith in
-    record { answers = refl; stored = sym (l .inv .2 ∙ ap (λ (xs : List ℕ). sets (l .lent) (l .i) xs) (drop-of-length-le (now (a .numbers)) h)) }
+    record { answers = refl; stored = sym (l .inv .1 ∙ ap (λ (xs : List ℕ). sets (l .lent) (l .i) xs) (drop-of-length-le (now (a .numbers)) h)) }
 
 pub show-spec : {M : Type 1} → statement M
 show-spec =
@@ -66,6 +79,8 @@ show-spec =
     Inv-loop
     μ-loop
     loop-holds
+    same-length
+    returns
     mul-lent
     shared-slice-read-lent
     mul-lent-2
@@ -73,5 +88,5 @@ show-spec =
     add-i
     loop-less
     loop-again
-    same-length
-    returns)
+    same-length-2
+    returns-2)

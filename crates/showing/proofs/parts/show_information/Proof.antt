@@ -1,9 +1,9 @@
--- `oam::parts::show_information` meets its contract.
+-- `showing::parts::show_information` meets its contract.
 use mathlib.Core.Path.{sym, _∙_}
-use Rattle.oam.proofs.Written.{untouched}
+use Rattle.showing.proofs.Untouched.{untouched}
 use borrow.Author.Needs.{needs}
-use Rattle.oam.proofs.parts.show_information.Statement.{statement}
-use Rattle.oam.proofs.parts.show_information.Tie as tie
+use Rattle.showing.proofs.parts.show_information.Statement.{statement}
+use Rattle.showing.proofs.parts.show_information.Tie as tie
 
 information-step-requires : tie.Need-information-step-requires
 information-step-requires c κs = search needs

@@ -1,13 +1,13 @@
--- `oam::parts::show_container` meets its contract.
+-- `showing::parts::show_container` meets its contract.
 use mathlib.Core.Path.{sym, _∙_, subst}
 use native.Mathlib.Omega.{arith}
 use denote.Ref.{now}
 use lib.ListN.{length}
 use Rattle.body.proofs.Wholes.{Contained, container-within}
-use Rattle.oam.proofs.Written.{untouched}
+use Rattle.showing.proofs.Untouched.{untouched}
 use borrow.Author.Needs.{needs}
-use Rattle.oam.proofs.parts.show_container.Statement.{statement}
-use Rattle.oam.proofs.parts.show_container.Tie as tie
+use Rattle.showing.proofs.parts.show_container.Statement.{statement}
+use Rattle.showing.proofs.parts.show_container.Tie as tie
 
 container-step-requires : tie.Need-container-step-requires
 container-step-requires c κs = search needs

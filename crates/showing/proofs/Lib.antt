@@ -1,0 +1,4 @@
+-- What the proofs of several functions use, and what follows from the promises.
+pub mod Untouched
+pub mod Moving
+pub mod Taking

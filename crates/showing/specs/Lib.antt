@@ -1,0 +1,6 @@
+-- What the promises of showing cite.
+pub mod Showing
+pub mod Reading
+pub mod Parts
+pub mod Lines
+pub mod Taking
