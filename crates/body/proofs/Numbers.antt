@@ -2,16 +2,13 @@
 use Prim.Native.Nat.{ℕ, zero, suc, _+_, _*_, _/_, _%_, _^_, _<_, _≤_}
 use mathlib.Core.Path.{_≡_, refl, ap, subst}
 use mathlib.Core.List.{List, [], _∷_}
-use mathlib.Core.Bool.{Bool, true, false, cond, _&&_}
+use mathlib.Core.Bool.{Bool, true, false}
 use native.Mathlib.Omega.{arith}
 use native.Mathlib.Nat.{add-zero, pow-suc, pow-le-pow-right}
-use borrow.Author.Tests.{le-leb, lt-leb}
-use lib.Dec.{leb}
 use lib.Bits.{bitAnd, bitOr, and-mask, or-shifted}
 use lib.Pow.{split}
-use lib.ListN.{length, getD}
-use Rattle.body.specs.Octets.{num, numberAt}
-use Rattle.body.specs.Octets.{bitOf}
+use lib.ListN.{getD}
+use Rattle.body.specs.Octets.{num, bitOf}
 
 -- every element is an octet
 abbrev pub Octets : List ℕ → Type 0
@@ -44,24 +41,6 @@ num-lt (suc width) s at h = rw pow-suc (omega (arith, num-lt width s at h, h (at
 
 pub pow-upto : (i j : ℕ) → i ≤ j → 256 ^ i ≤ 256 ^ j
 pow-upto i j h = pow-le-pow-right (omega arith) h
-
--- a number that is read at any octet, where it stands and where it does not
-module _ (width : ℕ) (s : List ℕ) (at : ℕ) where
-  pub number-there : width ≤ 8 → at + width ≤ length s → numberAt width s at ≡ num width s at
-  unfolding numberAt
-  number-there h k = rw (le-leb width 8 h, le-leb (at + width) (length s) k)
-
-  pub number-wide : 8 < width → 0 ≡ numberAt width s at
-  unfolding numberAt
-  number-wide h = rw (lt-leb width 8 h)
-
-  pub number-past : length s < at + width → 0 ≡ numberAt width s at
-  unfolding numberAt
-  number-past h = rw (lt-leb (at + width) (length s) h) (none (leb width 8))
-    where
-      none : (b : Bool) → 0 ≡ cond (b && false) (num width s at) 0
-      none true = refl
-      none false = refl
 
 -- masks as remainders
 pub mask-1 : (n : ℕ) → bitAnd n 1 ≡ n % 2

@@ -1,18 +1,13 @@
 -- Numbers that stand in octets. "All numbers are big-endian."
 use Prim.Native.Nat.{ℕ, zero, suc, _+_, _*_}
 use mathlib.Core.List.{List, [], _∷_}
-use mathlib.Core.Bool.{Bool, true, false, cond, _&&_}
-use lib.Dec.{leb}
-use lib.ListN.{length, getD}
+use mathlib.Core.Bool.{Bool, true, false}
+use lib.ListN.{getD}
 
 -- the number in the `width` octets of s from octet `at`; octets past the end count as 0, and every use is behind a length test
 abbrev pub num : ℕ → List ℕ → ℕ → ℕ
 num zero s at = 0
 num (suc width) s at = num width s at * 256 + getD s (at + width) 0
-
--- the same for any octet and width: 0 where no number of at most eight octets stands
-unfoldable pub numberAt : ℕ → List ℕ → ℕ → ℕ
-numberAt width s at = cond (leb width 8 && leb (at + width) (length s)) (num width s at) 0
 
 -- the octets that some widths take
 abbrev pub total : List ℕ → ℕ

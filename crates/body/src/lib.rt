@@ -21,7 +21,6 @@ pub use octets::join_four;
 pub use octets::join_six;
 pub use octets::join_three;
 pub use octets::join_two;
-pub use octets::number_at;
 pub use variables::container_step;
 pub use variables::container_value;
 pub use variables::descriptor_step;

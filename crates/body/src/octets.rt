@@ -3,7 +3,7 @@ ghost use mathlib.Core.Path.{_≡_};
 ghost use mathlib.Core.List.{[], _∷_};
 ghost use Prim.Native.Nat.{_+_, _^_, _≤_, _<_};
 ghost use lib.ListN.{length};
-ghost use Rattle.body.specs.Octets.{num, numberAt};
+ghost use Rattle.body.specs.Octets.{num};
 
 // The number in the width octets from octet at.
 pub(crate) fn number(s: &[u8], at: usize, width: usize) -> u64
@@ -17,22 +17,6 @@ pub(crate) fn number(s: &[u8], at: usize, width: usize) -> u64
         i += 1;
     }
     value
-}
-
-// The same for any octet and width: 0 where no number of at most eight octets stands.
-pub fn number_at(s: &[u8], at: usize, width: usize) -> u64
-    ensures { λ r. ⌜ r ≡ numberAt width (now (s .entry)) at ⌝ }
-{
-    if 8 < width {
-        return 0;
-    }
-    if s.len() < at {
-        return 0;
-    }
-    if s.len() - at < width {
-        return 0;
-    }
-    number(s, at, width)
 }
 
 // The number of two octets, the first one first; below, of three, four and six.

@@ -106,7 +106,7 @@ pub struct Taken {
     pub shown: Shown,
 }
 
-// A fresh end, or the number of the settings' refusal.
+// An end made of settings or of parts, or the number of their refusal.
 pub enum FreshEnd {
     Refused(u8),
     Is(End),

@@ -1,5 +1,4 @@
 -- What the proofs of several functions use, and what follows from the promises.
 mod Widths
-mod Sames
 pub mod Numbering
 pub mod Packing

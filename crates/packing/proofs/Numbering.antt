@@ -1,11 +1,11 @@
 -- An end is known by its numbers: those of an end that keeps to its ranges make it again, and no others make it.
 use Prim.Native.Nat.{ℕ, zero, suc, _%_, _^_, _<_}
 use mathlib.Core.Path.{_≡_, refl, sym, ap, _∙_}
-use mathlib.Core.List.{List, [], _∷_}
-use mathlib.Core.Bool.{Bool, true, false, cond, _&&_}
+use mathlib.Core.List.{List}
+use mathlib.Core.Bool.{Bool, true, false, cond, _&&_, _||_}
 use native.Mathlib.Nat.{mod-eq-of-lt}
 use native.Mathlib.Omega.{arith}
-use borrow.Author.Tests.{ltb-true, leb-true, lt-ltb}
+use borrow.Author.Tests.{ltb-true, leb-true, eqb-true, lt-ltb}
 use lib.Dec.{ltb, leb, eqb}
 use lib.ListN.{getD}
 use Rattle.body.specs.Octets.{bitOf}
@@ -30,9 +30,9 @@ use Rattle.end.specs.declared.End.{End}
 use Rattle.end.specs.declared.FreshEnd.{FreshEnd}
 use Rattle.end.specs.declared.FreshEnd.the-variants.{Refused, Is}
 use Rattle.end.specs.Ranges.{tests, heldFits, lastFits, ranged, checked}
-use Rattle.packing.specs.Numbers.{known, lastNumber, lastOf, numbersOf, numberWidths, informationFrom, endOf, same, knownBy, foundBy, endFrom}
+use Rattle.packing.specs.Numbers.{known, lastNumber, lastOf, numbersOf, numberWidths, informationFrom, endOf, blankTests, blankRecord, properTests, proper, endFrom}
+use Rattle.packing.specs.Octets.{numbersIn}
 use Rattle.end.proofs.Ranging.{all-at}
-use Rattle.packing.proofs.Sames.{same-refl, same-true}
 
 -- ---- the numbers of an end that keeps to its ranges fit their octets
 
@@ -46,6 +46,17 @@ role-fits Asking = refl
 role-fits Holding = refl
 role-fits Ending = refl
 role-fits Looping = refl
+
+-- so that their last octet is the number itself
+pub bit-octet : (b : Bool) → bitOf b % 256 ≡ bitOf b
+bit-octet b = mod-eq-of-lt (ltb-true (bitOf b) (256 ^ 1) (bit-fits b))
+
+pub role-octet : (r : Role) → numberOf r % 256 ≡ numberOf r
+role-octet r = mod-eq-of-lt (ltb-true (numberOf r) (256 ^ 1) (role-fits r))
+
+pub told-octets : (r i : Information) → r ≡ i → r .version < 256 → r .state < 256 → r .configuration < 256
+    → (i .version % 256 ≡ i .version) × (i .state % 256 ≡ i .state) × (i .configuration % 256 ≡ i .configuration)
+told-octets r i is v s c = rw (← is) (mod-eq-of-lt v, mod-eq-of-lt s, mod-eq-of-lt c)
 
 told-fits : (h : Held) → heldFits h ≡ true → fit informationWidths (informationValues (told h)) ≡ true
 unfolding heldFits
@@ -121,96 +132,165 @@ bit-back : (b : Bool) → eqb (bitOf b) 1 ≡ b
 bit-back true = refl
 bit-back false = refl
 
-role-back : (r : Role) → roleOf (numberOf r % 2 ^ 8) ≡ r
+role-back : (r : Role) → roleOf (numberOf r) ≡ r
 role-back Idle = refl
 role-back Asking = refl
 role-back Holding = refl
 role-back Ending = refl
 role-back Looping = refl
 
-last-back : (l : Last) (n : ℕ) → n ≡ lastNumber l → lastOf (eqb (bitOf (known l)) 1) n ≡ l
-last-back Never n h = refl
-last-back (Number m) n h = ap Number h
+last-back : (l : Last) → lastOf (eqb (bitOf (known l)) 1) (lastNumber l) ≡ l
+last-back Never = refl
+last-back (Number m) = refl
 
-held-back : (h : Held) (i : Information) → i ≡ told h → heldOf (eqb (bitOf (held h)) 1) i ≡ h
-held-back Nothing i e = refl
-held-back (HeldIs j) i e = ap HeldIs e
+held-back : (h : Held) → heldOf (eqb (bitOf (held h)) 1) (told h) ≡ h
+held-back Nothing = refl
+held-back (HeldIs j) = refl
 
-made-again : (e : End) → fit numberWidths (numbersOf e) ≡ true → endOf (numbersOf e) ≡ e
-unfolding numbersOf numberWidths endOf
-made-again e h =
-    let at : (n : ℕ) → n < 27 → _ = λ n k. fit-at numberWidths (numbersOf e) n k k h in
-    let r = told (e .peer .held) in
-    let oui : e .settings .oui % 2 ^ 32 ≡ e .settings .oui = mod-eq-of-lt (omega (arith, at 2 (omega arith))) in
-    let kept : e .peer .kept % 2 ^ 16 ≡ e .peer .kept = mod-eq-of-lt (omega (arith, at 8 (omega arith))) in
-    let peer-oui : r .oui % 2 ^ 32 ≡ r .oui = mod-eq-of-lt (omega (arith, at 15 (omega arith))) in
-    let information : informationFrom (numbersOf e) ≡ r = λ i.
+made-again : (e : End) → endOf (numbersOf e) ≡ e
+unfolding numbersOf endOf
+made-again e = λ i.
     record {
-      version = mod-eq-of-lt (at 10 (omega arith)) i;
-      revision = mod-eq-of-lt (at 11 (omega arith)) i;
-      state = mod-eq-of-lt (at 12 (omega arith)) i;
-      configuration = mod-eq-of-lt (at 13 (omega arith)) i;
-      oampdu = mod-eq-of-lt (at 14 (omega arith)) i;
-      oui = peer-oui i;
-      vendor = mod-eq-of-lt (at 16 (omega arith)) i;
-    } in
-    λ i.
-    record {
-      settings = record {
-        configuration = mod-eq-of-lt (at 0 (omega arith)) i;
-        size = mod-eq-of-lt (at 1 (omega arith)) i;
-        oui = oui i;
-        vendor = mod-eq-of-lt (at 3 (omega arith)) i;
-        source = e .settings .source;
-        required = mod-eq-of-lt (at 5 (omega arith)) i;
-      };
-      link = record { up = bit-back (e .link .up) i; lost = mod-eq-of-lt (at 7 (omega arith)) i };
-      peer = record {
-        kept = kept i;
-        held = held-back (e .peer .held) (informationFrom (numbersOf e)) information i;
-        last = last-back (e .peer .last) (lastNumber (e .peer .last) % 2 ^ 16) (mod-eq-of-lt (at 18 (omega arith))) i;
-      };
+      settings = e .settings;
+      link = record { up = bit-back (e .link .up) i; lost = e .link .lost };
+      peer = record { kept = e .peer .kept; held = held-back (e .peer .held) i; last = last-back (e .peer .last) i };
       role = role-back (e .role) i;
-      meter = record { ticks = mod-eq-of-lt (at 20 (omega arith)) i; written = mod-eq-of-lt (at 21 (omega arith)) i };
+      meter = e .meter;
       own = record {
-        revision = mod-eq-of-lt (at 22 (omega arith)) i;
-        number = mod-eq-of-lt (at 23 (omega arith)) i;
+        revision = e .own .revision;
+        number = e .own .number;
         gasp = bit-back (e .own .gasp) i;
         critical = bit-back (e .own .critical) i;
         owed = bit-back (e .own .owed) i;
       };
     }
 
+-- ---- the numbers of any end are proper
+
+bit-small : (b : Bool) → leb (bitOf b) 1 ≡ true
+bit-small true = refl
+bit-small false = refl
+
+role-small : (r : Role) → leb (numberOf r) 4 ≡ true
+role-small Idle = refl
+role-small Asking = refl
+role-small Holding = refl
+role-small Ending = refl
+role-small Looping = refl
+
+held-or-blank : (h : Held) → eqb (bitOf (held h)) 1 || blankRecord (told h) ≡ true
+unfolding blankRecord
+held-or-blank Nothing = refl
+held-or-blank (HeldIs i) = refl
+
+known-or-zero : (l : Last) → eqb (bitOf (known l)) 1 || eqb (lastNumber l) 0 ≡ true
+known-or-zero Never = refl
+known-or-zero (Number n) = refl
+
+numbers-proper : (e : End) → proper (numbersOf e) ≡ true
+unfolding numbersOf proper
+numbers-proper e =
+    rw (
+      bit-small (e .link .up),
+      bit-small (held (e .peer .held)),
+      bit-small (known (e .peer .last)),
+      bit-small (e .own .gasp),
+      bit-small (e .own .critical),
+      bit-small (e .own .owed),
+      role-small (e .role),
+      held-or-blank (e .peer .held),
+      known-or-zero (e .peer .last),
+    )
+
+-- ---- proper numbers are those of the end that they make
+
+bit-again : (n : ℕ) → leb n 1 ≡ true → bitOf (eqb n 1) ≡ n
+bit-again zero h = refl
+bit-again (suc zero) h = refl
+bit-again (suc (suc n)) h = absurd (omega (arith, leb-true (suc (suc n)) 1 h))
+
+role-again : (n : ℕ) → leb n 4 ≡ true → numberOf (roleOf n) ≡ n
+role-again zero h = refl
+role-again (suc zero) h = refl
+role-again (suc (suc zero)) h = refl
+role-again (suc (suc (suc zero))) h = refl
+role-again (suc (suc (suc (suc zero)))) h = refl
+role-again (suc (suc (suc (suc (suc n))))) h = absurd (omega (arith, leb-true (suc (suc (suc (suc (suc n))))) 4 h))
+
+held-again : (b : Bool) (i : Information) → held (heldOf b i) ≡ b
+held-again true i = refl
+held-again false i = refl
+
+told-again : (b : Bool) (i : Information) → b || blankRecord i ≡ true → told (heldOf b i) ≡ i
+unfolding blankRecord
+told-again true i h = refl
+told-again false i h =
+    let zero-at : (n : ℕ) → _ = λ n. all-at (blankTests i) n h in
+    λ j.
+    record {
+      version = sym (eqb-true (i .version) 0 (zero-at 0)) j;
+      revision = sym (eqb-true (i .revision) 0 (zero-at 1)) j;
+      state = sym (eqb-true (i .state) 0 (zero-at 2)) j;
+      configuration = sym (eqb-true (i .configuration) 0 (zero-at 3)) j;
+      oampdu = sym (eqb-true (i .oampdu) 0 (zero-at 4)) j;
+      oui = sym (eqb-true (i .oui) 0 (zero-at 5)) j;
+      vendor = sym (eqb-true (i .vendor) 0 (zero-at 6)) j;
+    }
+
+known-again : (b : Bool) (n : ℕ) → known (lastOf b n) ≡ b
+known-again true n = refl
+known-again false n = refl
+
+last-again : (b : Bool) (n : ℕ) → b || eqb n 0 ≡ true → lastNumber (lastOf b n) ≡ n
+last-again true n h = refl
+last-again false n h = sym (eqb-true n 0 h)
+
+numbers-again : (state : List ℕ) → proper (numbersIn state) ≡ true → numbersOf (endOf (numbersIn state)) ≡ numbersIn state
+unfolding numbersOf numberWidths endOf proper
+numbers-again state h =
+    let n = numbersIn state in
+    let at : (k : ℕ) → _ = λ k. all-at (properTests n) k h in
+    let i = informationFrom n in
+    rw (
+      held-again (eqb (getD n 9 0) 1) i,
+      told-again (eqb (getD n 9 0) 1) i (at 7),
+      known-again (eqb (getD n 17 0) 1) (getD n 18 0),
+      last-again (eqb (getD n 17 0) 1) (getD n 18 0) (at 8),
+      bit-again (getD n 6 0) (at 0),
+      bit-again (getD n 9 0) (at 1),
+      bit-again (getD n 17 0) (at 2),
+      bit-again (getD n 24 0) (at 3),
+      bit-again (getD n 25 0) (at 4),
+      bit-again (getD n 26 0) (at 5),
+      role-again (getD n 19 0) (at 6),
+    )
+
 -- ---- the two laws
 
 -- numbers make the end that has them, where it keeps to its ranges
 from-numbers : (ns : List ℕ)
-    → endFrom ns ≡ cond (ranged (endOf ns) && same (numbersOf (endOf ns)) ns) (Is (endOf ns)) (Refused 10)
-unfolding endFrom checked knownBy
+    → endFrom ns ≡ cond (proper ns && ranged (endOf ns)) (Is (endOf ns)) (Refused 10)
+unfolding endFrom checked
 from-numbers ns =
-    by-cond (λ (f : FreshEnd). f ≡ checked (endOf ns) → foundBy ns f ≡ cond (ranged (endOf ns) && same (numbersOf (endOf ns)) ns) (Is (endOf ns)) (Refused 10)) (ranged (endOf ns))
-    (λ t _. rw t)
-    (λ f _. rw f)
-    refl
+    by-cond (λ (f : FreshEnd). f ≡ cond (proper ns && ranged (endOf ns)) (Is (endOf ns)) (Refused 10)) (proper ns)
+    (λ t. rw t)
+    (λ f. rw f)
 
 pub numbers-back : (e : End) → ranged e ≡ true → endFrom (numbersOf e) ≡ Is e
-numbers-back e h =
-    let m = made-again e (numbers-fit e h) in
-    rw (from-numbers (numbersOf e), m, h, same-refl (numbersOf e))
+numbers-back e h = rw (from-numbers (numbersOf e), numbers-proper e, made-again e, h)
 
 -- the end that is there
 abbrev endIn : End → FreshEnd → End
 endIn e (Refused n) = e
 endIn e (Is x) = x
 
-pub numbers-only : (ns : List ℕ) (e : End) → endFrom ns ≡ Is e → (ranged e ≡ true) × (numbersOf e ≡ ns)
-numbers-only ns e h =
+pub numbers-only : (state : List ℕ) (e : End) → endFrom (numbersIn state) ≡ Is e → (ranged e ≡ true) × (numbersOf e ≡ numbersIn state)
+numbers-only state e h =
+    let ns = numbersIn state in
     let x = endOf ns in
-    let kept = ranged x in
-    let again = same (numbersOf x) ns in
-    by-cond (λ (f : FreshEnd). f ≡ Is e → (ranged e ≡ true) × (numbersOf e ≡ ns)) (kept && again)
+    by-cond (λ (f : FreshEnd). f ≡ Is e → (ranged e ≡ true) × (numbersOf e ≡ ns)) (proper ns && ranged x)
     (λ t k.
     let is : x ≡ e = ap (endIn e) k in
-    (rw (← is) (and-l kept again t), rw (← is) (same-true (numbersOf x) ns (and-r kept again t))))
+    (rw (← is) (and-r (proper ns) (ranged x) t), rw (← is) (numbers-again state (and-l (proper ns) (ranged x) t))))
     (λ _ k. let z : _≡_ {A = ℕ} 0 1 = cc in absurd (omega arith))
     (sym (from-numbers ns) ∙ h)

@@ -6,11 +6,10 @@ use mathlib.Core.Bool.{_&&_}
 use native.Mathlib.Numerals.{add-one}
 use native.Mathlib.Nat.{add-zero}
 use native.Mathlib.Omega.{arith}
-use borrow.Author.Tests.{le-leb, lt-leb}
 use lib.Dec.{ltb}
 use lib.ListN.{length, getD, drop, set, replicate}
 use lib.Seq.{sets, set-comm, drop-cons}
-use Rattle.writer.specs.Octets.{oct, octs, fit, putAt}
+use Rattle.writer.specs.Octets.{oct, octs, fit}
 use Rattle.writer.proofs.Lengths.{length-oct}
 
 -- a run of stores in two runs
@@ -27,15 +26,6 @@ sets-snoc l at (y ∷ xs) x =
     let e : suc at + length xs ≡ at + suc (length xs) = omega arith in
     sets-snoc (set l at y) (suc at) xs x
     ∙ ap (λ (m : List ℕ). sets m (suc at) xs) (rw e (set-comm l at (at + suc (length xs)) y x (λ p. omega arith)))
-
--- a number that is stored in any output, where it has the octets and where it has not
-pub put-there : (out : List ℕ) (at width value : ℕ) → at + width ≤ length out → putAt out at width value ≡ sets out at (oct width value)
-unfolding putAt
-put-there out at width value h = rw (le-leb (at + width) (length out) h)
-
-pub put-past : (out : List ℕ) (at width value : ℕ) → length out < at + width → out ≡ putAt out at width value
-unfolding putAt
-put-past out at width value h = rw (lt-leb (at + width) (length out) h)
 
 -- a turn of `put_number`: the last octet of what is left
 pub last-first : (l : List ℕ) (at i value : ℕ) → 0 < i → sets l at (oct i value) ≡ sets (set l (at + (i - 1)) (value % 256)) at (oct (i - 1) (value / 256))

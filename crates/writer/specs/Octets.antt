@@ -1,19 +1,13 @@
 -- The octets of numbers. "All numbers are big-endian."
 use Prim.Native.Nat.{ℕ, zero, suc, _+_, _/_, _%_, _^_}
 use mathlib.Core.List.{List, [], _∷_, _++_}
-use mathlib.Core.Bool.{Bool, true, cond, _&&_}
-use lib.Dec.{ltb, leb}
-use lib.ListN.{length}
-use lib.Seq.{sets}
+use mathlib.Core.Bool.{Bool, true, _&&_}
+use lib.Dec.{ltb}
 
 -- the `width` octets of a number, the last one last
 abbrev pub oct : ℕ → ℕ → List ℕ
 oct zero v = []
 oct (suc width) v = oct width (v / 256) ++ (v % 256 ∷ [])
-
--- a number stored from octet `at` of any output: nothing where it has not the octets
-unfoldable pub putAt : List ℕ → ℕ → ℕ → ℕ → List ℕ
-putAt out at width v = cond (leb (at + width) (length out)) (sets out at (oct width v)) out
 
 -- numbers one after another, each in its width
 abbrev pub octs : List ℕ → List ℕ → List ℕ

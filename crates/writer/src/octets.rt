@@ -5,7 +5,7 @@ ghost use lib.Dec.{ltb};
 ghost use lib.ListN.{length, replicate};
 ghost use lib.Seq.{sets};
 ghost use Rattle.body.specs.Octets.{total};
-ghost use Rattle.writer.specs.Octets.{oct, octs, fit, putAt};
+ghost use Rattle.writer.specs.Octets.{oct, octs, fit};
 
 // Stores a number in width octets from octet at.
 pub(crate) fn put_number(out: &mut [u8], at: usize, width: usize, value: u64)
@@ -19,19 +19,6 @@ pub(crate) fn put_number(out: &mut [u8], at: usize, width: usize, value: u64)
         out[at + i] = (left % 256) as u8;
         left = left / 256;
     }
-}
-
-// The same in any output: nothing is stored where it has not the octets.
-pub fn put_number_at(out: &mut [u8], at: usize, width: usize, value: u64)
-    ensures { λ _. ⌜ now (out .exit) ≡ putAt (now (out .entry)) at width value ⌝ }
-{
-    if out.len() < at {
-        return;
-    }
-    if out.len() - at < width {
-        return;
-    }
-    put_number(out, at, width, value);
 }
 
 // Stores count zeros from octet at.

@@ -1,16 +1,10 @@
 -- `packing::pack` meets its contract.
-use mathlib.Core.Path.{sym, ap, _∙_}
-use mathlib.Core.List.{List}
-use Prim.Native.Nat.{ℕ}
 use borrow.Author.Needs.{needs}
 use borrow.Author.Tests.{eq-eqb, ne-eqb}
 use denote.Ref.{now}
 use lib.ListN.{length}
-use lib.Seq.{sets}
-use Rattle.writer.specs.Octets.{octs}
-use Rattle.packing.specs.Numbers.{numberWidths}
-use Rattle.packing.specs.Octets.{packed, packedIn}
-use Rattle.packing.proofs.Packing.{packed-long, stored-whole}
+use Rattle.packing.specs.Octets.{packedIn}
+use Rattle.packing.proofs.Packing.{parts-whole}
 use Rattle.packing.proofs.pack.Statement.{statement}
 use Rattle.packing.proofs.pack.Tie as tie
 
@@ -18,26 +12,63 @@ returns : tie.Need-returns
 unfolding packedIn
 returns c = rw (ne-eqb _ _ (c .if1 .taken))
 
-numbers-of-requires : tie.Need-numbers-of-requires
-numbers-of-requires c κs = search needs
+settings-octets-requires : tie.Need-settings-octets-requires
+settings-octets-requires c κs = search needs
 
-put-numbers-requires : tie.Need-put-numbers-requires
-put-numbers-requires c κs = search needs
+peer-octets-requires : tie.Need-peer-octets-requires
+peer-octets-requires c κs = search needs
+
+own-octets-requires : tie.Need-own-octets-requires
+own-octets-requires c κs = search needs
+
+slice-aggregate-put-part : tie.Need-slice-aggregate-put-part
+slice-aggregate-put-part c = search needs
+
+put-part-requires : tie.Need-put-part-requires
+put-part-requires c κs = search needs
+
+slice-aggregate-put-part-2 : tie.Need-slice-aggregate-put-part-2
+slice-aggregate-put-part-2 c = search needs
+
+put-part-requires-2 : tie.Need-put-part-requires-2
+put-part-requires-2 c κs = search needs
+
+slice-aggregate-put-part-3 : tie.Need-slice-aggregate-put-part-3
+slice-aggregate-put-part-3 c = search needs
+
+put-part-requires-3 : tie.Need-put-part-requires-3
+put-part-requires-3 c κs = search needs
 
 same-length : tie.Need-same-length
 same-length c = search needs
 
 returns-2 : tie.Need-returns-2
-unfolding packed packedIn
+unfolding packedIn
 returns-2 c =
-    let a = c .before .before .before .before .before .before .before .args in
-    let s = now (a .state) in
-    let long = c .before .before .before .before .before .if1 .left in
+    let s = now (c .before .before .before .before .before .before .before .before .before .before .before .before .before .before .before .before .before .before .before .before .args .state) in
+    let long = c .before .before .before .before .before .before .before .before .before .before .before .before .before .before .before .before .before .before .if1 .left in
     rw (eq-eqb (length s) 48 long)
-    (c .before .before .put-numbers .ensures
-    ∙ ap (λ (ns : List ℕ). sets s 0 (octs numberWidths ns)) (c .before .before .before .before .numbers-of .ensures)
-    ∙ stored-whole s (packed (a .e)) (long ∙ sym (packed-long (a .e))))
+    (parts-whole (c .before .before .before .before .before .before .before .before .before .before .before .before .before .before .before .before .before .before .before .before .args .e) s _ _ _ _ _ _ long
+    (c .before .before .before .before .before .before .before .before .before .before .before .before .before .before .before .before .before .settings-octets .ensures)
+    (c .before .before .before .before .before .before .before .before .before .before .before .before .before .before .before .before .peer-octets .ensures)
+    (c .before .before .before .before .before .before .before .before .before .before .before .before .before .before .before .own-octets .ensures)
+    (c .before .before .before .before .before .before .before .before .before .before .before .before .put-part .ensures)
+    (c .before .before .before .before .before .before .before .put-part2 .ensures)
+    (c .before .before .put-part3 .ensures))
 
 pub pack-spec : {M : Type 1} → statement M
 pack-spec =
-    tie.close (tie.spec returns numbers-of-requires put-numbers-requires same-length returns-2)
+    tie.close
+    (tie.spec
+    returns
+    settings-octets-requires
+    peer-octets-requires
+    own-octets-requires
+    slice-aggregate-put-part
+    put-part-requires
+    slice-aggregate-put-part-2
+    put-part-requires-2
+    slice-aggregate-put-part-3
+    put-part-requires-3
+    same-length
+    returns-2)

@@ -48,14 +48,14 @@ cast-t17 c = search needs
 cast-t18 : tie.Need-cast-t18
 cast-t18 c = search needs
 
+cast-t19 : tie.Need-cast-t19
+cast-t19 c = search needs
+
 is-held-requires : tie.Need-is-held-requires
 is-held-requires c κs = search needs
 
 digit-requires-2 : tie.Need-digit-requires-2
 digit-requires-2 c κs = search needs
-
-cast-t21 : tie.Need-cast-t21
-cast-t21 c = search needs
 
 cast-t22 : tie.Need-cast-t22
 cast-t22 c = search needs
@@ -75,50 +75,68 @@ cast-t26 c = search needs
 cast-t27 : tie.Need-cast-t27
 cast-t27 c = search needs
 
+cast-t28 : tie.Need-cast-t28
+cast-t28 c = search needs
+
+cast-t29 : tie.Need-cast-t29
+cast-t29 c = search needs
+
 is-known-requires : tie.Need-is-known-requires
 is-known-requires c κs = search needs
 
 digit-requires-3 : tie.Need-digit-requires-3
 digit-requires-3 c κs = search needs
 
+cast-t32 : tie.Need-cast-t32
+cast-t32 c = search needs
+
 last-number-requires : tie.Need-last-number-requires
 last-number-requires c κs = search needs
 
-cast-t31 : tie.Need-cast-t31
-cast-t31 c = search needs
+cast-t34 : tie.Need-cast-t34
+cast-t34 c = search needs
 
 number-requires : tie.Need-number-requires
 number-requires c κs = search needs
 
-cast-t33 : tie.Need-cast-t33
-cast-t33 c = search needs
+cast-t36 : tie.Need-cast-t36
+cast-t36 c = search needs
 
 ticks-requires : tie.Need-ticks-requires
 ticks-requires c κs = search needs
 
-cast-t35 : tie.Need-cast-t35
-cast-t35 c = search needs
+cast-t38 : tie.Need-cast-t38
+cast-t38 c = search needs
 
 written-requires : tie.Need-written-requires
 written-requires c κs = search needs
 
-cast-t37 : tie.Need-cast-t37
-cast-t37 c = search needs
+cast-t40 : tie.Need-cast-t40
+cast-t40 c = search needs
 
-cast-t38 : tie.Need-cast-t38
-cast-t38 c = search needs
+cast-t41 : tie.Need-cast-t41
+cast-t41 c = search needs
 
-cast-t39 : tie.Need-cast-t39
-cast-t39 c = search needs
+cast-t42 : tie.Need-cast-t42
+cast-t42 c = search needs
 
 digit-requires-4 : tie.Need-digit-requires-4
 digit-requires-4 c κs = search needs
 
+cast-t44 : tie.Need-cast-t44
+cast-t44 c = search needs
+
 digit-requires-5 : tie.Need-digit-requires-5
 digit-requires-5 c κs = search needs
 
+cast-t46 : tie.Need-cast-t46
+cast-t46 c = search needs
+
 digit-requires-6 : tie.Need-digit-requires-6
 digit-requires-6 c κs = search needs
+
+cast-t48 : tie.Need-cast-t48
+cast-t48 c = search needs
 
 returns : tie.Need-returns
 unfolding numbersOf
@@ -143,28 +161,34 @@ numbers-of-spec =
     digit-requires
     cast-t17
     cast-t18
+    cast-t19
     is-held-requires
     digit-requires-2
-    cast-t21
     cast-t22
     cast-t23
     cast-t24
     cast-t25
     cast-t26
     cast-t27
+    cast-t28
+    cast-t29
     is-known-requires
     digit-requires-3
+    cast-t32
     last-number-requires
-    cast-t31
+    cast-t34
     number-requires
-    cast-t33
+    cast-t36
     ticks-requires
-    cast-t35
-    written-requires
-    cast-t37
     cast-t38
-    cast-t39
+    written-requires
+    cast-t40
+    cast-t41
+    cast-t42
     digit-requires-4
+    cast-t44
     digit-requires-5
+    cast-t46
     digit-requires-6
+    cast-t48
     returns)

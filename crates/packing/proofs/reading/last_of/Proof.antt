@@ -1,6 +1,6 @@
 use borrow.Author.Needs.{needs}
-use Rattle.packing.proofs.numbers.last_of.Statement.{statement}
-use Rattle.packing.proofs.numbers.last_of.Tie as tie
+use Rattle.packing.proofs.reading.last_of.Statement.{statement}
+use Rattle.packing.proofs.reading.last_of.Tie as tie
 
 returns : tie.Need-returns
 returns c = simp (c .if1 .taken)
