@@ -2,7 +2,7 @@
 # Changes the machine's definitions, one at a time, and sees that the theorems of `reach` and `pair` no longer hold. `rt
 # must-fail` cannot do this: it changes and proves one crate alone, and the definitions are those of the crates below. Here their
 # code is left out (its contracts would fail before any theorem), so that what is tried is the theorems. Each edit is a file in
-# tests/definitions, in the form of the must-fail edits. Run after `rt check pair`, whose proofs of `body`, `frame` and `writer` it uses.
+# tests/definitions, in the form of the must-fail edits. Run after `rt check pair`, whose proofs of `writer` and of what stands below it are used.
 set -euo pipefail
 cd "$(dirname "$0")/.."
 edits="$PWD/tests/definitions"
@@ -10,11 +10,11 @@ room="$PWD/target/definitions"
 rm -rf "$room"
 trap 'rm -rf "$room"' EXIT
 mkdir -p "$room/crates" "$room/target/rlib" "$room/target/stamp" "$room/target/log"
-for crate in body frame writer limit peer loopback discovery end link reach pair; do
+for crate in tlvs body frame writer limit peer loopback discovery end link reach pair; do
   cp -r "crates/$crate" "$room/crates/"
   grep "^$crate:" crates.txt >> "$room/crates.txt"
 done
-for crate in body frame writer; do
+for crate in tlvs body frame writer; do
   cp -r "target/rlib/$crate.rlib" "$room/target/rlib/"
   cp "target/stamp/$crate" "$room/target/stamp/"
   cp "target/log/$crate".* "$room/target/log/"

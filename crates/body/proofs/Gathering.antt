@@ -6,13 +6,13 @@ use mathlib.Core.List.{List}
 use native.Mathlib.Omega.{arith}
 use lib.ListN.{length}
 use lib.Dec.{eqb}
-use Rattle.body.specs.Tlvs.{markAt}
-use Rattle.body.specs.Walk.{Next, stop, Walk, walk, Parsed, refused, parts, also}
+use Rattle.tlvs.specs.Tlvs.{markAt}
+use Rattle.tlvs.specs.Walk.{Next, stop, Walk, walk, Parsed, refused, parts, also}
 use Rattle.body.specs.Information.{stepOf, informationStep, InformationPart, local, remote, nextOf, informationWalk, informationParts, keep, nothing}
 use Rattle.body.specs.Gathering.{gathered, gatheredOf, isHeld, turnOf}
-use Rattle.body.specs.declared.tlvs.Mark.{Mark}
-use Rattle.body.specs.declared.tlvs.Mark.the-variants.{End as MarkEnd, Broken as MarkBroken, Unknown, Known}
-use Rattle.body.specs.declared.tlvs.Kind.the-variants.{Information as InformationKind}
+use Rattle.tlvs.specs.declared.Mark.{Mark}
+use Rattle.tlvs.specs.declared.Mark.the-variants.{End as MarkEnd, Broken as MarkBroken, Unknown, Known}
+use Rattle.tlvs.specs.declared.Kind.the-variants.{Information as InformationKind}
 use Rattle.body.specs.declared.InformationStep.{InformationStep}
 use Rattle.body.specs.declared.InformationStep.the-variants.{End, Broken, Skip, Local, Remote}
 use Rattle.body.specs.declared.Held.{Held}
@@ -21,8 +21,8 @@ use Rattle.body.specs.declared.Found.{Found}
 use Rattle.body.specs.declared.Gathered.{Gathered}
 use Rattle.body.specs.declared.«local_remote».Turn.{Turn}
 use Rattle.body.specs.declared.«local_remote».Turn.the-variants.{Done, More}
-use Rattle.body.proofs.Walks.{by-cond, Ahead, Rest, Then, Leads, turn}
-use Rattle.body.proofs.Marks.{Marked, mark-within, mark-end}
+use Rattle.tlvs.proofs.Walks.{by-cond, Ahead, Rest, Then, Leads, turn}
+use Rattle.tlvs.proofs.Marks.{Marked, mark-within, mark-end}
 
 ahead : (s : List ℕ) (at : ℕ) (mark : Mark) → Marked InformationKind at (length s) mark → Ahead at (length s) (nextOf (stepOf s at mark))
 ahead s at MarkEnd h = tt

@@ -5,22 +5,22 @@ use mathlib.Core.Path.{_≡_, refl, sym, _∙_, subst}
 use mathlib.Core.List.{List}
 use native.Mathlib.Omega.{arith}
 use lib.ListN.{length}
-use Rattle.body.specs.Tlvs.{markAt}
-use Rattle.body.specs.Walk.{Next, stop, broken, skip, has, Walk, over, part, onNext, walk, whole, parts}
+use Rattle.tlvs.specs.Tlvs.{markAt}
+use Rattle.tlvs.specs.Walk.{Next, stop, broken, skip, has, Walk, over, part, onNext, walk, whole, parts}
 use Rattle.body.specs.Information.{nothing}
 use Rattle.body.specs.Information.{informationStep, nextOf as informationNext}
-use Rattle.body.specs.Events.{stepOf, eventStep, nextOf, eventWalk}
+use Rattle.tlvs.specs.Events.{stepOf, eventStep, nextOf, eventWalk}
 use Rattle.body.specs.Variables.{descriptorStep, descriptorNext, descriptorWalk, containerStep, containerNext, containerWalk}
 use Rattle.body.specs.Lists.{ofMark, ofDescriptor, ofContainer, placeAt, placeNext, wholeList}
-use Rattle.body.specs.declared.tlvs.Mark.{Mark}
-use Rattle.body.specs.declared.tlvs.Mark.the-variants.{End as MarkEnd, Broken as MarkBroken, Unknown, Known}
-use Rattle.body.specs.declared.tlvs.Kind.the-variants.{Events as EventKind}
+use Rattle.tlvs.specs.declared.Mark.{Mark}
+use Rattle.tlvs.specs.declared.Mark.the-variants.{End as MarkEnd, Broken as MarkBroken, Unknown, Known}
+use Rattle.tlvs.specs.declared.Kind.the-variants.{Events as EventKind}
 use Rattle.body.specs.declared.DescriptorStep.{DescriptorStep}
 use Rattle.body.specs.declared.DescriptorStep.the-variants.{End as DescriptorEnd, Broken as DescriptorBroken, Has as HasDescriptor}
 use Rattle.body.specs.declared.ContainerStep.{ContainerStep}
 use Rattle.body.specs.declared.ContainerStep.the-variants.{End as ContainerEnd, Broken as ContainerBroken, Value, Indication}
 use Rattle.body.specs.declared.ListKind.the-variants.{Events, Descriptors, Containers}
-use Rattle.body.proofs.Walks.{Ahead, Leads, unrolls}
+use Rattle.tlvs.proofs.Walks.{Ahead, Leads, unrolls}
 use Rattle.body.proofs.Gathering.{information-leads}
 use Rattle.body.proofs.Wholes.{list-leads}
 

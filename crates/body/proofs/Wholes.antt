@@ -7,14 +7,14 @@ use native.Mathlib.Omega.{arith}
 use borrow.Author.Tests.{ltb-false, leb-false, le-leb}
 use lib.ListN.{length, getD}
 use lib.Dec.{ltb, leb, eqb}
-use Rattle.body.specs.Tlvs.{markAt}
-use Rattle.body.specs.Walk.{Next, stop, broken, skip, has, Walk, onNext, walk, whole}
-use Rattle.body.specs.Events.{eventStep, eventWalk}
+use Rattle.tlvs.specs.Tlvs.{markAt}
+use Rattle.tlvs.specs.Walk.{Next, stop, broken, skip, has, Walk, onNext, walk, whole}
+use Rattle.tlvs.specs.Events.{eventStep, eventWalk}
 use Rattle.body.specs.Variables.{descriptorStep, widthOf, containerFrom, containerStep, descriptorWalk, containerWalk}
 use Rattle.body.specs.Lists.{ofMark, ofDescriptor, ofContainer, placeAt, placeNext, wholeList}
-use Rattle.body.specs.declared.tlvs.Mark.{Mark}
-use Rattle.body.specs.declared.tlvs.Mark.the-variants.{End as MarkEnd, Broken as MarkBroken, Unknown, Known}
-use Rattle.body.specs.declared.tlvs.Kind.the-variants.{Events as EventKind}
+use Rattle.tlvs.specs.declared.Mark.{Mark}
+use Rattle.tlvs.specs.declared.Mark.the-variants.{End as MarkEnd, Broken as MarkBroken, Unknown, Known}
+use Rattle.tlvs.specs.declared.Kind.the-variants.{Events as EventKind}
 use Rattle.body.specs.declared.DescriptorStep.{DescriptorStep}
 use Rattle.body.specs.declared.DescriptorStep.the-variants.{End as DescriptorEnd, Broken as DescriptorBroken, Has as HasDescriptor}
 use Rattle.body.specs.declared.ContainerStep.{ContainerStep}
@@ -23,8 +23,8 @@ use Rattle.body.specs.declared.lists.Place.{Place}
 use Rattle.body.specs.declared.lists.Place.the-variants.{End, Broken, Skip, Has}
 use Rattle.body.specs.declared.ListKind.{ListKind}
 use Rattle.body.specs.declared.ListKind.the-variants.{Events, Descriptors, Containers}
-use Rattle.body.proofs.Walks.{by-cond, Ahead, Rest, Then, Leads, turn}
-use Rattle.body.proofs.Marks.{Marked, mark-within, mark-end}
+use Rattle.tlvs.proofs.Walks.{by-cond, Ahead, Rest, Then, Leads, turn}
+use Rattle.tlvs.proofs.Marks.{Marked, mark-within, mark-end}
 
 -- where a descriptor, and what follows it in a container, stands
 abbrev pub Described : ℕ → ℕ → DescriptorStep → Type 0

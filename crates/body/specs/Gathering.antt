@@ -2,7 +2,7 @@
 use Prim.Native.Nat.{ℕ}
 use mathlib.Core.List.{List}
 use mathlib.Core.Bool.{Bool, true, false, cond}
-use Rattle.body.specs.Walk.{Parsed, refused, parts}
+use Rattle.tlvs.specs.Walk.{Parsed, refused, parts}
 use Rattle.body.specs.Information.{InformationPart, local, remote, informationWalk, informationParts, keep, keepAll, nothing}
 use Rattle.body.specs.declared.Information.{Information}
 use Rattle.body.specs.declared.InformationStep.{InformationStep}

@@ -4,12 +4,12 @@ use mathlib.Core.List.{List, [], _∷_}
 use mathlib.Core.Bool.{Bool, true, false, cond}
 use lib.ListN.{length}
 use lib.Dec.{eqb}
-use Rattle.body.specs.Octets.{num}
-use Rattle.body.specs.Walk.{Next, stop, broken, skip, has, Walk, ends, breaks, over, part, walk, Parsed, refused, parts, also}
-use Rattle.body.specs.Tlvs.{markAt}
-use Rattle.body.specs.declared.tlvs.Mark.{Mark}
-use Rattle.body.specs.declared.tlvs.Mark.the-variants.{End as MarkEnd, Broken as MarkBroken, Unknown, Known}
-use Rattle.body.specs.declared.tlvs.Kind.the-variants.{Information as InformationKind}
+use Rattle.tlvs.specs.Octets.{num}
+use Rattle.tlvs.specs.Walk.{Next, stop, broken, skip, has, Walk, ends, breaks, over, part, walk, Parsed, refused, parts, also}
+use Rattle.tlvs.specs.Tlvs.{markAt}
+use Rattle.tlvs.specs.declared.Mark.{Mark}
+use Rattle.tlvs.specs.declared.Mark.the-variants.{End as MarkEnd, Broken as MarkBroken, Unknown, Known}
+use Rattle.tlvs.specs.declared.Kind.the-variants.{Information as InformationKind}
 use Rattle.body.specs.declared.Information.{Information}
 use Rattle.body.specs.declared.InformationStep.{InformationStep}
 use Rattle.body.specs.declared.InformationStep.the-variants.{End, Broken, Skip, Local, Remote}

@@ -4,12 +4,12 @@ use Prim.Native.Nat.{ℕ}
 use mathlib.Core.List.{List}
 use mathlib.Core.Bool.{Bool}
 use lib.ListN.{length}
-use Rattle.body.specs.Walk.{Next, stop, broken, skip, has, whole, walk}
-use Rattle.body.specs.Tlvs.{markAt}
+use Rattle.tlvs.specs.Walk.{Next, stop, broken, skip, has, whole, walk}
+use Rattle.tlvs.specs.Tlvs.{markAt}
 use Rattle.body.specs.Variables.{descriptorStep, containerStep}
-use Rattle.body.specs.declared.tlvs.Mark.{Mark}
-use Rattle.body.specs.declared.tlvs.Mark.the-variants.{End as MarkEnd, Broken as MarkBroken, Unknown, Known}
-use Rattle.body.specs.declared.tlvs.Kind.the-variants.{Events as EventKind}
+use Rattle.tlvs.specs.declared.Mark.{Mark}
+use Rattle.tlvs.specs.declared.Mark.the-variants.{End as MarkEnd, Broken as MarkBroken, Unknown, Known}
+use Rattle.tlvs.specs.declared.Kind.the-variants.{Events as EventKind}
 use Rattle.body.specs.declared.DescriptorStep.{DescriptorStep}
 use Rattle.body.specs.declared.DescriptorStep.the-variants.{End as DescriptorEnd, Broken as DescriptorBroken, Has as HasDescriptor}
 use Rattle.body.specs.declared.ContainerStep.{ContainerStep}

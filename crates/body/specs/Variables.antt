@@ -4,8 +4,8 @@ use mathlib.Core.List.{List, []}
 use mathlib.Core.Bool.{Bool, true, false, cond}
 use lib.ListN.{length, getD, take, drop}
 use lib.Dec.{ltb, leb, eqb}
-use Rattle.body.specs.Octets.{num}
-use Rattle.body.specs.Walk.{Next, stop, broken, has, Walk, walk}
+use Rattle.tlvs.specs.Octets.{num}
+use Rattle.tlvs.specs.Walk.{Next, stop, broken, has, Walk, walk}
 use Rattle.body.specs.declared.DescriptorStep.{DescriptorStep}
 use Rattle.body.specs.declared.DescriptorStep.the-variants.{End as DescriptorEnd, Broken as DescriptorBroken, Has}
 use Rattle.body.specs.declared.ContainerStep.{ContainerStep}

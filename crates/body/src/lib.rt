@@ -1,26 +1,16 @@
-// The bodies of OAM frames: the numbers, TLVs, descriptors and containers that stand in their octets.
+// The bodies of OAM frames: the Information TLVs, descriptors and containers that stand in their octets.
 //
-// The parts of a body are taken in order, one a call, by the step of their kind: `information_step`, `event_step`,
-// `descriptor_step`, `container_step`. Begin at octet 0, and go on at the octet that each step gives, until the end. A step
+// The parts of a body are taken in order, one a call, by the step of their kind: `information_step`, `descriptor_step`,
+// `container_step`, and for events `event_step` of `tlvs`. Begin at octet 0, and go on at the octet that each step gives, until the end. A step
 // judges what stands at its octet alone: a second Local is shown as a Local, and it is `gather` that refuses such a body.
 // Nothing is copied out of a body but numbers: what is longer is a part of the caller's own octets.
 mod lists;
 mod local_remote;
-mod notifications;
-mod octets;
-mod tlvs;
 mod variables;
 
 pub use lists::is_whole;
 pub use local_remote::gather;
 pub use local_remote::information_step;
-pub use notifications::event_length;
-pub use notifications::event_step;
-pub use notifications::event_widths;
-pub use octets::join_four;
-pub use octets::join_six;
-pub use octets::join_three;
-pub use octets::join_two;
 pub use variables::container_step;
 pub use variables::container_value;
 pub use variables::descriptor_step;
@@ -54,17 +44,6 @@ pub enum Gathered {
     Whole(Found),
 }
 
-// The fields of one event TLV, in the order of the table of widths; `kind` is its type, 1 to 4.
-pub struct Event {
-    pub kind: u8,
-    pub timestamp: u64,
-    pub window: u64,
-    pub threshold: u64,
-    pub errors: u64,
-    pub error_total: u64,
-    pub event_total: u64,
-}
-
 // What stands at an octet of a body, with the octet after it. An unknown TLV is to be skipped.
 pub enum InformationStep {
     End,
@@ -72,13 +51,6 @@ pub enum InformationStep {
     Skip(usize),
     Local(Information, usize),
     Remote(Information, usize),
-}
-
-pub enum EventStep {
-    End,
-    Broken,
-    Skip(usize),
-    Has(Event, usize),
 }
 
 // A descriptor is one number, the branch above the leaf's sixteen bits.

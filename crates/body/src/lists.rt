@@ -4,11 +4,10 @@ ghost use Rattle.body.specs.Lists.{ofMark, ofDescriptor, ofContainer, pl
 use crate::ContainerStep;
 use crate::DescriptorStep;
 use crate::ListKind;
-use crate::tlvs::Kind;
-use crate::tlvs::Mark;
-use crate::tlvs::mark_at;
 use crate::variables::container_step;
 use crate::variables::descriptor_step;
+use tlvs::Kind;
+use tlvs::Mark;
 
 // What stands at an octet, whatever it says: the end, something broken, or something with the octet after it.
 pub enum Place {
@@ -55,7 +54,7 @@ fn place_at(list: ListKind, body: &[u8], at: usize) -> Place
     ensures { λ r. ⌜ r ≡ placeAt list (now (body .entry)) at ⌝ }
 {
     match list {
-        ListKind::Events => of_mark(mark_at(Kind::Events, body, at)),
+        ListKind::Events => of_mark(tlvs::mark_at(Kind::Events, body, at)),
         ListKind::Descriptors => of_descriptor(descriptor_step(body, at)),
         ListKind::Containers => of_container(container_step(body, at)),
     }

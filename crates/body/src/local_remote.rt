@@ -2,7 +2,6 @@
 ghost use mathlib.Core.Path.{_≡_};
 ghost use Prim.Native.Nat.{_+_, _≤_};
 ghost use lib.ListN.{length};
-ghost use Rattle.body.specs.Tlvs.{informationLength};
 ghost use Rattle.body.specs.Information.{informationAt, informationStep};
 ghost use Rattle.body.specs.Gathering.{keepLocal, keepRemote, turnOf, gatheredOf};
 use crate::Found;
@@ -10,26 +9,13 @@ use crate::Gathered;
 use crate::Held;
 use crate::Information;
 use crate::InformationStep;
-use crate::octets::join_four;
-use crate::octets::join_three;
-use crate::octets::join_two;
-use crate::tlvs::Kind;
-use crate::tlvs::Mark;
-use crate::tlvs::mark_at;
+use tlvs::Kind;
+use tlvs::Mark;
 
 // One turn of the walk: the answer, or the octet to go on from with what is found so far.
 pub enum Turn {
     Done(Gathered),
     More(usize, Found),
-}
-
-pub(crate) fn information_length(t: u8) -> usize
-    ensures { λ r. ⌜ r ≡ informationLength t ⌝ }
-{
-    if t == 1 {
-        return 16;
-    }
-    if t == 2 { 16 } else { 0 }
 }
 
 // The fields of the Information TLV at an octet.
@@ -39,12 +25,12 @@ fn information_at(body: &[u8], at: usize) -> Information
 {
     Information {
         version: body[at + 2],
-        revision: join_two(body[at + 3], body[at + 4]),
+        revision: tlvs::join_two(body[at + 3], body[at + 4]),
         state: body[at + 5],
         configuration: body[at + 6],
-        oampdu: join_two(body[at + 7], body[at + 8]),
-        oui: join_three(body[at + 9], body[at + 10], body[at + 11]),
-        vendor: join_four(body[at + 12], body[at + 13], body[at + 14], body[at + 15]),
+        oampdu: tlvs::join_two(body[at + 7], body[at + 8]),
+        oui: tlvs::join_three(body[at + 9], body[at + 10], body[at + 11]),
+        vendor: tlvs::join_four(body[at + 12], body[at + 13], body[at + 14], body[at + 15]),
     }
 }
 
@@ -52,7 +38,7 @@ fn information_at(body: &[u8], at: usize) -> Information
 pub fn information_step(body: &[u8], at: usize) -> InformationStep
     ensures { λ r. ⌜ r ≡ informationStep (now (body .entry)) at ⌝ }
 {
-    match mark_at(Kind::Information, body, at) {
+    match tlvs::mark_at(Kind::Information, body, at) {
         Mark::End => InformationStep::End,
         Mark::Broken => InformationStep::Broken,
         Mark::Unknown(next) => InformationStep::Skip(next),

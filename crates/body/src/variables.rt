@@ -3,7 +3,6 @@ ghost use mathlib.Core.Path.{_≡_};
 ghost use Rattle.body.specs.Variables.{descriptorStep, widthOf, containerStep, valueAt};
 use crate::ContainerStep;
 use crate::DescriptorStep;
-use crate::octets::join_three;
 
 // What stands at an octet of a list of descriptors.
 pub fn descriptor_step(body: &[u8], at: usize) -> DescriptorStep
@@ -18,7 +17,10 @@ pub fn descriptor_step(body: &[u8], at: usize) -> DescriptorStep
     if body.len() - at < 3 {
         return DescriptorStep::Broken;
     }
-    DescriptorStep::Has(join_three(body[at], body[at + 1], body[at + 2]), at + 3)
+    DescriptorStep::Has(
+        tlvs::join_three(body[at], body[at + 1], body[at + 2]),
+        at + 3,
+    )
 }
 
 // The octets of a value by its width octet.

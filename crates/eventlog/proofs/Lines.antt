@@ -10,7 +10,7 @@ use borrow.Author.Tests.{eqb-true, eq-eqb}
 use lib.Dec.{eqb}
 use lib.ListN.{length, getD, take, drop, length-append, length-map, drop-of-length-le}
 use lib.Seq.{split-at, take-at, getD-at}
-use Rattle.body.specs.Tlvs.{row}
+use Rattle.tlvs.specs.Tlvs.{row}
 use Rattle.writer.specs.Plain.{every, plainEvent}
 use Rattle.writer.specs.Writing.{plainSeven}
 use Rattle.writer.proofs.Bools.{never}

@@ -9,9 +9,9 @@ use borrow.Author.Tests.{lt-ltb, ltb-true, leb-true}
 use lib.Dec.{ltb, leb}
 use lib.ListN.{length, getD, length-append}
 use lib.Seq.{drop-cons}
-use Rattle.body.specs.Octets.{total}
-use Rattle.body.specs.Tlvs.{row}
-use Rattle.body.proofs.Rows.{four}
+use Rattle.tlvs.specs.Octets.{total}
+use Rattle.tlvs.specs.Tlvs.{row}
+use Rattle.tlvs.proofs.Rows.{four}
 use Rattle.writer.specs.Octets.{fit}
 use Rattle.writer.specs.Encode.{eventValues}
 use Rattle.writer.specs.Plain.{every}

@@ -7,18 +7,18 @@ use native.Mathlib.Omega.{arith}
 use borrow.Author.Tests.{ltb-false, eqb-true, ne-eqb}
 use lib.ListN.{length, getD, drop}
 use lib.Dec.{ltb, eqb}
-use Rattle.body.specs.Octets.{num}
-use Rattle.body.specs.Walk.{Walk, ends, breaks, over, part, whole, Parsed, refused as unread, parts, also, listed}
+use Rattle.tlvs.specs.Octets.{num}
+use Rattle.tlvs.specs.Walk.{Walk, ends, breaks, over, part, whole, Parsed, refused as unread, parts, also, listed}
 use Rattle.body.specs.Information.{InformationPart, informationWalk, informationParts, nothing}
 use Rattle.body.specs.Gathering.{gathered, gatheredOf}
 use Rattle.frame.specs.Reader.{headerOf, gatheredReading, listReading, loopbackReading, bodyReading}
-use Rattle.body.specs.Events.{eventWalk}
+use Rattle.tlvs.specs.Events.{eventWalk}
 use Rattle.body.specs.Variables.{descriptorWalk, containerWalk}
 use Rattle.frame.specs.Frame.{refused, Body, information, notification, request, response, loopback, says, saysAll, headerAnswer, bodyAnswer, decode, readingOf}
 use Rattle.frame.specs.declared.Header.{Header}
 use Rattle.frame.specs.declared.Reading.{Reading}
 use Rattle.frame.specs.declared.Reading.the-variants.{Refused, Notification, Request, Response, Loopback}
-use Rattle.body.proofs.Walks.{by-cond}
+use Rattle.tlvs.proofs.Walks.{by-cond}
 use Rattle.body.proofs.Places.{whole-events, whole-descriptors, whole-containers}
 
 -- ---- what is shown of a body

@@ -8,9 +8,9 @@ use borrow.Author.Tests.{eqb-true, eqb-false}
 use lib.Dec.{lit<, eqb}
 use lib.Arith.{mod-mul, digits-div, digits-mod}
 use Rattle.frame.specs.declared.Flags.{Flags}
-use Rattle.body.specs.Octets.{bitOf}
+use Rattle.tlvs.specs.Octets.{bitOf}
 use Rattle.frame.specs.Flags.{flagsOf, joined}
-use Rattle.body.proofs.Numbers.{bit-lt}
+use Rattle.tlvs.proofs.Numbers.{bit-lt}
 
 -- a bit as a test, and a test as a bit
 bit-is : (on : Bool) → eqb (bitOf on) 1 ≡ on

@@ -8,14 +8,14 @@ use native.Mathlib.Omega.{arith}
 use borrow.Author.Tests.{eqb-true, eqb-false}
 use lib.ListN.{length, getD, drop}
 use lib.Dec.{ltb, eqb}
-use Rattle.body.specs.Octets.{num}
-use Rattle.body.specs.Walk.{Walk, ends, breaks, over, part, met, Parsed, refused as unread, parts, also, listed}
+use Rattle.tlvs.specs.Octets.{num}
+use Rattle.tlvs.specs.Walk.{Walk, ends, breaks, over, part, met, Parsed, refused as unread, parts, also, listed}
 use Rattle.body.specs.Information.{InformationPart, local, remote, informationWalk, informationParts}
-use Rattle.body.specs.Events.{eventWalk}
+use Rattle.tlvs.specs.Events.{eventWalk}
 use Rattle.body.specs.Variables.{descriptorWalk, containerWalk}
 use Rattle.frame.specs.Frame.{Body, Message, codeOf, Answer, refused, accepted, information, notification, request, response, loopback, organization, says, saysAll, headerAnswer, bodyAnswer, decode}
 use Rattle.frame.specs.Steps.{Stepped}
-use Rattle.body.proofs.Walks.{by-cond}
+use Rattle.tlvs.proofs.Walks.{by-cond}
 
 -- a number that the reader gives
 abbrev Given : ℕ → Type 0

@@ -1,7 +1,7 @@
 -- The flags number and its parts.
 use Prim.Native.Nat.{ℕ, _+_, _*_, _/_, _%_}
 use lib.Dec.{eqb}
-use Rattle.body.specs.Octets.{bitOf}
+use Rattle.tlvs.specs.Octets.{bitOf}
 use Rattle.frame.specs.declared.Flags.{Flags}
 
 -- "Flags: bit 0 link fault, 1 dying gasp, 2 critical event, 4:3 local field, 6:5 remote field, others sent 0 and ignored."

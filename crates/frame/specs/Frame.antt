@@ -4,12 +4,12 @@ use mathlib.Core.List.{List}
 use mathlib.Core.Bool.{Bool, true, false, not, cond, _||_}
 use lib.ListN.{length, getD, drop}
 use lib.Dec.{ltb, eqb}
-use Rattle.body.specs.Octets.{num}
-use Rattle.body.specs.Walk.{Parsed, refused as unread, parts, listed}
+use Rattle.tlvs.specs.Octets.{num}
+use Rattle.tlvs.specs.Walk.{Parsed, refused as unread, parts, listed}
 use Rattle.body.specs.Information.{InformationPart, informationWalk, informationParts, nothing, keepAll}
-use Rattle.body.specs.Events.{eventWalk}
+use Rattle.tlvs.specs.Events.{eventWalk}
 use Rattle.body.specs.Variables.{Container, descriptorWalk, containerWalk}
-use Rattle.body.specs.declared.Event.{Event}
+use Rattle.tlvs.specs.declared.Event.{Event}
 use Rattle.frame.specs.declared.Header.{Header}
 use Rattle.frame.specs.declared.Reading.{Reading}
 use Rattle.frame.specs.declared.Reading.the-variants.{Refused, Information, Notification, Request, Response, Loopback, Organization}

@@ -4,7 +4,7 @@ use mathlib.Core.List.{List}
 use mathlib.Core.Bool.{Bool, cond}
 use lib.ListN.{getD, drop}
 use lib.Dec.{eqb}
-use Rattle.body.specs.Octets.{num}
+use Rattle.tlvs.specs.Octets.{num}
 use Rattle.body.specs.Lists.{wholeList}
 use Rattle.body.specs.declared.Gathered.{Gathered}
 use Rattle.body.specs.declared.Gathered.the-variants.{Refused as RefusedGathered, Whole}

@@ -1,6 +1,6 @@
 // The flags number of a frame, taken apart and put together by shifts and masks.
 ghost use mathlib.Core.Path.{_≡_};
-ghost use Rattle.body.specs.Octets.{bitOf};
+ghost use Rattle.tlvs.specs.Octets.{bitOf};
 ghost use Rattle.frame.specs.Flags.{flagsOf, joined};
 use crate::Flags;
 

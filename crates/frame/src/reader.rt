@@ -21,11 +21,11 @@ fn header_answer(frame: &[u8]) -> u8
     if frame.len() > 1514 {
         return 1;
     }
-    let destination = body::join_six(frame[0], frame[1], frame[2], frame[3], frame[4], frame[5]);
+    let destination = tlvs::join_six(frame[0], frame[1], frame[2], frame[3], frame[4], frame[5]);
     if destination != 0x0180c2000002 {
         return 2;
     }
-    if body::join_two(frame[12], frame[13]) != 0x8809 {
+    if tlvs::join_two(frame[12], frame[13]) != 0x8809 {
         return 3;
     }
     if frame[14] != 3 {
@@ -39,8 +39,8 @@ fn header_of(frame: &[u8]) -> Header
     ensures { λ r. ⌜ r ≡ headerOf (now (frame .entry)) ⌝ }
 {
     Header {
-        source: body::join_six(frame[6], frame[7], frame[8], frame[9], frame[10], frame[11]),
-        flags: body::join_two(frame[15], frame[16]),
+        source: tlvs::join_six(frame[6], frame[7], frame[8], frame[9], frame[10], frame[11]),
+        flags: tlvs::join_two(frame[15], frame[16]),
         code: frame[17],
     }
 }
@@ -83,7 +83,7 @@ fn body_reading(frame: &[u8], header: Header) -> Reading
         0 => gathered_reading(header, body::gather(body(frame))),
         1 => list_reading(
             body::is_whole(ListKind::Events, events_body(frame)),
-            Reading::Notification(header, body::join_two(frame[18], frame[19])),
+            Reading::Notification(header, tlvs::join_two(frame[18], frame[19])),
         ),
         2 => list_reading(
             body::is_whole(ListKind::Descriptors, body(frame)),
@@ -94,7 +94,7 @@ fn body_reading(frame: &[u8], header: Header) -> Reading
             Reading::Response(header),
         ),
         4 => loopback_reading(header, frame[18]),
-        0xfe => Reading::Organization(header, body::join_three(frame[18], frame[19], frame[20])),
+        0xfe => Reading::Organization(header, tlvs::join_three(frame[18], frame[19], frame[20])),
         _ => Reading::Refused(5),
     }
 }

@@ -19,7 +19,7 @@ use Rattle.eventlog.specs.Logging.{logs}
 use Rattle.eventlog.proofs.Lines.{longest}
 use Rattle.link.specs.declared.Outcome.{Outcome}
 use Rattle.oam.specs.Outcomes.{outcomeOf}
-use Rattle.oam.specs.Machine.{kindOf, steppedNumber}
+use Rattle.concluding.specs.Concluding.{kindOf, steppedNumber}
 
 -- the outcome of n octets that are to be written, where they may be and where the output is too short
 abbrev pub outcomeIn : Bool → Bool → ℕ → ℕ

@@ -1,26 +1,19 @@
 -- What an entry that takes a call gives back: a number alone, or what the call comes to.
-use Prim.Native.Nat.{ℕ, _<_}
+use Prim.Native.Nat.{ℕ}
 use mathlib.Core.Path.{_≡_, refl, sym, ap, _∙_}
 use mathlib.Core.List.{List, [], _∷_, _++_}
 use native.Mathlib.Nat.{zero-add}
-use native.Mathlib.Omega.{arith}
 use lib.ListN.{length, set}
 use lib.Seq.{sets}
 use Rattle.writer.proofs.Stores.{sets-append}
 use Rattle.end.specs.declared.End.{End}
 use Rattle.end.specs.declared.FreshEnd.{FreshEnd}
 use Rattle.end.specs.declared.FreshEnd.the-variants.{Refused, Is}
-use Rattle.end.specs.declared.Shown.{Shown}
-use Rattle.end.specs.declared.Shown.the-variants.{Nothing, Frame, Events}
 use Rattle.link.specs.declared.Outcome.{Outcome}
 use Rattle.packing.specs.Octets.{packedIn}
+use Rattle.concluding.specs.Concluding.{steppedNumber, steppedState}
 use Rattle.showing.specs.Showing.{Showing}
-use Rattle.oam.specs.Machine.{kindOf, steppedNumber, steppedState, Stepping, Freshly, heardShown, Receiving}
-
-pub kind-small : (shown : Shown) → kindOf shown < 4
-kind-small Nothing = omega arith
-kind-small (Frame h) = omega arith
-kind-small (Events h n) = omega arith
+use Rattle.oam.specs.Machine.{Stepping, Freshly, heardShown, Receiving}
 
 module _ {call : End → Outcome} {output : End → List ℕ → List ℕ} (found : FreshEnd) (state out : List ℕ) where
   pub refused : {n : ℕ} → found ≡ Refused n → Stepping call output found state out n state out

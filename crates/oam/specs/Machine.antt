@@ -1,6 +1,6 @@
 -- What the entries of the link machine promise. An end is kept in octets that the caller lends: an entry unpacks it, takes the
 -- call, and stores the end after it.
-use Prim.Native.Nat.{ℕ, _+_, _*_, _%_, _^_}
+use Prim.Native.Nat.{ℕ}
 use mathlib.Core.Path.{_≡_}
 use mathlib.Core.List.{List, [], _∷_, _++_}
 use mathlib.Core.Bool.{Bool, cond, true, false}
@@ -17,6 +17,7 @@ use Rattle.end.specs.declared.Report.the-variants.{LinkUp, LinkDown, DyingGasp,
 use Rattle.end.specs.declared.Shown.{Shown as Heard}
 use Rattle.end.specs.declared.Shown.the-variants.{Nothing, Frame, Events}
 use Rattle.link.specs.declared.Outcome.{Outcome}
+use Rattle.concluding.specs.Concluding.{steppedNumber, steppedState}
 use Rattle.end.specs.State.{freshOf, discoveryOf}
 use Rattle.link.specs.Requests.{Asked, requestOf, requestOutput}
 use Rattle.packing.specs.Numbers.{numbersOf}
@@ -26,21 +27,7 @@ use Rattle.showing.specs.Reading.{headerShown}
 
 -- ---- what a call comes to
 
--- what is shown: 0 nothing, 1 the frame, 2 new events
-abbrev pub kindOf : Heard → ℕ
-kindOf Nothing = 0
-kindOf (Frame h) = 1
-kindOf (Events h n) = 2
-
--- bits 0 to 7 the answer, 8 to 39 the length written, 40 to 47 the State octet after the call, 48 and 49 what is shown
-unfoldable pub steppedNumber : Outcome → ℕ
-steppedNumber o = o .answer + o .length % 2 ^ 32 * 2 ^ 8 + o .state * 2 ^ 40 + kindOf (o .shown) * 2 ^ 48
-
--- the state after a call: "A refusal changes nothing."
-unfoldable pub steppedState : Outcome → List ℕ → List ℕ
-steppedState o state = cond (eqb (o .answer) 0) (packedIn (o .end) state) state
-
--- the same where no end may be there: the number of its refusal alone, and everything as it was
+-- what a call gives where no end may be there: the number of its refusal alone, and everything as it was
 abbrev pub answered : (End → Outcome) → FreshEnd → ℕ
 answered call (Refused n) = n
 answered call (Is e) = steppedNumber (call e)

@@ -3,7 +3,7 @@ ghost use lib.ListN.{length};
 ghost use Rattle.link.specs.Requests.{starting, stopping, requesting, notifying, telling};
 ghost use Rattle.packing.specs.Octets.{unpacked};
 ghost use Rattle.oam.specs.Machine.{Stepping, asking, askingOutput};
-use crate::machine::conclude;
+use concluding::conclude;
 use end::FreshEnd;
 
 // Starts a remote loopback.

@@ -8,48 +8,15 @@ ghost use Rattle.link.specs.Reports.{reportOf, reportOutput};
 ghost use Rattle.link.specs.Hearing.{receiveOf, receiveOutput};
 ghost use Rattle.packing.specs.Octets.{unpacked};
 ghost use Rattle.showing.specs.Showing.{Showing};
-ghost use Rattle.oam.specs.Machine.{kindOf, steppedNumber, steppedState, Stepping, settingsOf, freshFor, Freshly, reportFrom, foundFor, heardShown, roomyEnd, Receiving, endNumbers, endShown};
+ghost use Rattle.oam.specs.Machine.{Stepping, settingsOf, freshFor, Freshly, reportFrom, foundFor, heardShown, roomyEnd, Receiving, endNumbers, endShown};
+use concluding::conclude;
 use end::End;
 use end::FreshEnd;
 use end::Report;
 use end::Shown;
-use link::Outcome;
 use peer::Settings;
 use showing::show;
 use showing::show_header;
-
-fn kind(shown: Shown) -> u64
-    ensures { λ r. ⌜ r ≡ kindOf shown ⌝ }
-{
-    match shown {
-        Shown::Nothing => 0,
-        Shown::Frame(_) => 1,
-        Shown::Events(_, _) => 2,
-    }
-}
-
-// Bits 0 to 7 the answer, 8 to 39 the length written, 40 to 47 the State octet after the call, 48 and 49 what is shown.
-fn number(o: Outcome) -> u64
-    ensures { λ r. ⌜ r ≡ steppedNumber o ⌝ }
-{
-    let shown = o.shown;
-    (o.answer as u64)
-        + (o.length as u64) % 0x100000000 * 256
-        + (o.state as u64) * 0x10000000000
-        + kind(shown) * 0x1000000000000
-}
-
-// How every call ends: the end after it is stored, unless it was refused.
-pub(crate) fn conclude(o: Outcome, state: &mut [u8]) -> u64
-    ensures { λ r. ⌜ (r ≡ steppedNumber o) × (now (state .exit) ≡ steppedState o (now (state .entry))) ⌝ }
-{
-    let result = number(o);
-    if o.answer == 0 {
-        packing::pack(o.end, state);
-        return result;
-    }
-    result
-}
 
 // Makes a fresh end by its settings: 0, or 10 for settings out of range and for a state that has not 48 octets.
 #[no_mangle]

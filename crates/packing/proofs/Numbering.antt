@@ -8,11 +8,11 @@ use native.Mathlib.Omega.{arith}
 use borrow.Author.Tests.{ltb-true, leb-true, eqb-true, lt-ltb}
 use lib.Dec.{ltb, leb, eqb}
 use lib.ListN.{getD}
-use Rattle.body.specs.Octets.{bitOf}
+use Rattle.tlvs.specs.Octets.{bitOf}
 use Rattle.body.specs.declared.Information.{Information}
 use Rattle.body.specs.declared.Held.{Held}
 use Rattle.body.specs.declared.Held.the-variants.{Nothing, Is as HeldIs}
-use Rattle.body.proofs.Walks.{by-cond}
+use Rattle.tlvs.proofs.Walks.{by-cond}
 use Rattle.writer.specs.Octets.{fit}
 use Rattle.writer.specs.Encode.{informationWidths, informationValues}
 use Rattle.writer.proofs.Bools.{and-l, and-r}

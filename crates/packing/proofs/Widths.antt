@@ -1,7 +1,7 @@
 -- Laws of the table of widths.
 use mathlib.Core.Path.{_≡_, refl}
 use lib.ListN.{length}
-use Rattle.body.specs.Octets.{total}
+use Rattle.tlvs.specs.Octets.{total}
 use Rattle.packing.specs.Numbers.{numberWidths}
 
 pub widths-long : length numberWidths ≡ 27

@@ -4,7 +4,7 @@ use mathlib.Core.List.{List, [], _∷_}
 use mathlib.Core.Bool.{Bool, true, false, cond, _||_}
 use lib.Dec.{leb, eqb}
 use lib.ListN.{getD}
-use Rattle.body.specs.Octets.{bitOf}
+use Rattle.tlvs.specs.Octets.{bitOf}
 use Rattle.body.specs.declared.Information.{Information}
 use Rattle.peer.specs.declared.Settings.{Settings}
 use Rattle.peer.specs.Peers.{held, told, heldOf}

@@ -4,7 +4,7 @@ use mathlib.Core.List.{List}
 use mathlib.Core.Bool.{cond}
 use lib.Dec.{eqb}
 use lib.ListN.{length, take, drop}
-use Rattle.body.specs.Events.{fieldsAt}
+use Rattle.tlvs.specs.Events.{fieldsAt}
 use Rattle.writer.specs.Octets.{octs}
 use Rattle.end.specs.declared.End.{End}
 use Rattle.end.specs.declared.FreshEnd.{FreshEnd}

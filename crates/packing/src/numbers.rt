@@ -1,6 +1,6 @@
 // An end as 27 numbers.
 ghost use mathlib.Core.Path.{_≡_};
-ghost use Rattle.body.specs.Octets.{bitOf};
+ghost use Rattle.tlvs.specs.Octets.{bitOf};
 ghost use Rattle.packing.specs.Numbers.{known, lastNumber, numbersOf};
 use end::End;
 use end::Last;

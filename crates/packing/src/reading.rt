@@ -3,7 +3,7 @@ ghost use Prim.Native.Nat.{_≤_};
 ghost use mathlib.Core.Path.{_≡_};
 ghost use mathlib.Core.List.{[], _∷_};
 ghost use lib.ListN.{length};
-ghost use Rattle.body.specs.Octets.{num};
+ghost use Rattle.tlvs.specs.Octets.{num};
 ghost use Rattle.packing.specs.Numbers.{lastOf, settingsFrom, linkFrom, informationFrom, peerFrom, roleFrom, meterFrom, ownFrom, blankRecord, proper, endFrom};
 ghost use Rattle.packing.specs.Octets.{numbersIn};
 use body::Information;
@@ -29,10 +29,10 @@ fn settings_in(state: &[u8]) -> Settings
 {
     Settings {
         configuration: state[0],
-        size: body::join_two(state[1], state[2]),
-        oui: body::join_three(state[3], state[4], state[5]),
-        vendor: body::join_four(state[6], state[7], state[8], state[9]),
-        source: body::join_six(
+        size: tlvs::join_two(state[1], state[2]),
+        oui: tlvs::join_three(state[3], state[4], state[5]),
+        vendor: tlvs::join_four(state[6], state[7], state[8], state[9]),
+        source: tlvs::join_six(
             state[10],
             state[11],
             state[12],
@@ -60,12 +60,12 @@ fn information_in(state: &[u8]) -> Information
 {
     Information {
         version: state[21],
-        revision: body::join_two(state[22], state[23]),
+        revision: tlvs::join_two(state[22], state[23]),
         state: state[24],
         configuration: state[25],
-        oampdu: body::join_two(state[26], state[27]),
-        oui: body::join_three(state[28], state[29], state[30]),
-        vendor: body::join_four(state[31], state[32], state[33], state[34]),
+        oampdu: tlvs::join_two(state[26], state[27]),
+        oui: tlvs::join_three(state[28], state[29], state[30]),
+        vendor: tlvs::join_four(state[31], state[32], state[33], state[34]),
     }
 }
 
@@ -86,7 +86,7 @@ fn peer_in(state: &[u8]) -> Peer
     Peer {
         kept: one(state[19]),
         held: peer::held_of(state[20] == 1, information_in(state)),
-        last: last_of(state[35] == 1, body::join_two(state[36], state[37])),
+        last: last_of(state[35] == 1, tlvs::join_two(state[36], state[37])),
     }
 }
 
@@ -109,8 +109,8 @@ fn own_in(state: &[u8]) -> Own
     ensures { λ r. ⌜ r ≡ ownFrom (numbersIn (now (state .entry))) ⌝ }
 {
     Own {
-        revision: body::join_two(state[41], state[42]),
-        number: body::join_two(state[43], state[44]),
+        revision: tlvs::join_two(state[41], state[42]),
+        number: tlvs::join_two(state[43], state[44]),
         gasp: state[45] == 1,
         critical: state[46] == 1,
         owed: state[47] == 1,
@@ -136,7 +136,7 @@ fn is_proper(state: &[u8]) -> bool
     ensures { λ r. ⌜ r ≡ proper (numbersIn (now (state .entry))) ⌝ }
 {
     let held = peer::either(state[20] == 1, is_blank_record(information_in(state)));
-    let known = peer::either(state[35] == 1, body::join_two(state[36], state[37]) == 0);
+    let known = peer::either(state[35] == 1, tlvs::join_two(state[36], state[37]) == 0);
     let others = peer::all_three(state[38] <= 4, held, known);
     let own = peer::all_four(state[45] <= 1, state[46] <= 1, state[47] <= 1, others);
     peer::all_four(state[17] <= 1, state[20] <= 1, state[35] <= 1, own)

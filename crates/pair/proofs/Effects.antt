@@ -5,7 +5,7 @@ use mathlib.Core.Path.{_≡_, refl, sym, ap, _∙_}
 use mathlib.Core.List.{List}
 use mathlib.Core.Bool.{true}
 use Rattle.frame.specs.Frame.{Message, accepted, decode}
-use Rattle.body.proofs.Walks.{by-cond}
+use Rattle.tlvs.proofs.Walks.{by-cond}
 use Rattle.loopback.specs.declared.Role.{Role}
 use Rattle.end.specs.declared.End.{End}
 use Rattle.end.specs.declared.Report.{Report}

@@ -8,7 +8,7 @@ use lib.Dec.{leb, eqb}
 use Rattle.frame.specs.Frame.{Body, information, notification, request, response, loopback, organization, Message}
 use Rattle.body.specs.declared.Held.{Held}
 use Rattle.body.specs.declared.Held.the-variants.{Nothing, Is}
-use Rattle.body.proofs.Walks.{by-cond}
+use Rattle.tlvs.proofs.Walks.{by-cond}
 use Rattle.writer.proofs.Bools.{never, and-l}
 use Rattle.peer.specs.Bits.{bit}
 use Rattle.loopback.specs.Loopback.{isLooping, answering, answered, mayStart}

@@ -8,7 +8,7 @@ use native.Mathlib.Omega.{arith}
 use lib.Dec.{leb, eqb}
 use Rattle.frame.specs.Flags.{flagsOf}
 use Rattle.frame.specs.Frame.{Message}
-use Rattle.body.proofs.Walks.{by-cond}
+use Rattle.tlvs.proofs.Walks.{by-cond}
 use Rattle.writer.proofs.Bools.{never, and-l, and-r}
 use Rattle.peer.specs.Peers.{held, keptFrom}
 use Rattle.end.specs.declared.Peer.{Peer}

@@ -7,7 +7,7 @@ use mathlib.Core.Bool.{true}
 use native.Mathlib.Omega.{arith}
 use borrow.Author.Tests.{eqb-true}
 use lib.Dec.{eqb}
-use Rattle.body.proofs.Walks.{by-cond}
+use Rattle.tlvs.proofs.Walks.{by-cond}
 use Rattle.writer.proofs.Bools.{never}
 use Rattle.peer.specs.declared.Settings.{Settings}
 use Rattle.loopback.specs.declared.Role.the-variants.{Looping}

@@ -6,7 +6,7 @@ use mathlib.Core.List.{List, [], _∷_, _++_}
 use mathlib.Core.Bool.{Bool, true, false, _&&_}
 use lib.Dec.{eqb}
 use lib.ListN.{length, replicate}
-use Rattle.body.specs.Octets.{bitOf}
+use Rattle.tlvs.specs.Octets.{bitOf}
 use Rattle.frame.specs.Frame.{decode, readingOf}
 use Rattle.body.specs.Variables.{containerStep}
 use Rattle.body.specs.declared.ContainerStep.{ContainerStep}

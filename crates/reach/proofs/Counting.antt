@@ -8,7 +8,7 @@ use native.Mathlib.Omega.{arith}
 use borrow.Author.Tests.{leb-true, leb-false, lt-ltb, eq-eqb, ne-eqb}
 use lib.Dec.{leb, eqb}
 use lib.ListN.{length}
-use Rattle.body.proofs.Walks.{by-cond}
+use Rattle.tlvs.proofs.Walks.{by-cond}
 use Rattle.writer.proofs.Sizes.{encode-length}
 use Rattle.limit.specs.Limit.{chargedMeter, closing, turnedMeter}
 use Rattle.limit.specs.declared.Meter.{Meter}

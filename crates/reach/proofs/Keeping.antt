@@ -6,8 +6,8 @@ use native.Mathlib.Omega.{arith}
 use borrow.Author.Tests.{leb-false}
 use lib.Dec.{leb}
 use Rattle.frame.specs.Frame.{Message, accepted, decode}
-use Rattle.body.proofs.Numbers.{Octets}
-use Rattle.body.proofs.Walks.{by-cond}
+use Rattle.tlvs.proofs.Numbers.{Octets}
+use Rattle.tlvs.proofs.Walks.{by-cond}
 use Rattle.discovery.specs.Standing.{isAny, roleIn}
 use Rattle.limit.specs.Limit.{closing, turnedMeter}
 use Rattle.discovery.specs.declared.Discovery.{Discovery}

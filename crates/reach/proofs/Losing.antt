@@ -5,7 +5,7 @@ use mathlib.Core.Path.{_≡_, refl, ap, _∙_}
 use mathlib.Core.Bool.{true, cond}
 use borrow.Author.Tests.{le-ltb, le-leb, lt-leb}
 use lib.Dec.{eqb}
-use Rattle.body.proofs.Walks.{by-cond}
+use Rattle.tlvs.proofs.Walks.{by-cond}
 use Rattle.peer.specs.Bits.{bit}
 use Rattle.peer.specs.Peers.{held, satisfied}
 use Rattle.discovery.specs.Standing.{standsAt, roleIn}

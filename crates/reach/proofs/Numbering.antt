@@ -7,7 +7,7 @@ use mathlib.Core.Bool.{Bool, true, false, cond, _&&_, and-true, and-false}
 use borrow.Author.Tests.{eq-eqb, ne-eqb}
 use lib.Dec.{eqb}
 use Rattle.frame.specs.Frame.{notification}
-use Rattle.body.proofs.Walks.{by-cond}
+use Rattle.tlvs.proofs.Walks.{by-cond}
 use Rattle.writer.specs.Writing.{eventsOf}
 use Rattle.loopback.specs.Roles.{octetOf}
 use Rattle.limit.specs.Owing.{following, revised}

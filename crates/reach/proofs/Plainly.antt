@@ -13,7 +13,7 @@ use Rattle.frame.specs.declared.Flags.{Flags}
 use Rattle.body.specs.declared.Information.{Information}
 use Rattle.body.specs.declared.Held.{Held}
 use Rattle.body.specs.declared.Held.the-variants.{Nothing, Is}
-use Rattle.body.proofs.Numbers.{bit-lt}
+use Rattle.tlvs.proofs.Numbers.{bit-lt}
 use Rattle.frame.proofs.FlagLaws.{split-join}
 use Rattle.writer.specs.Octets.{fit}
 use Rattle.writer.specs.Encode.{informationWidths, informationValues, encode}

@@ -9,7 +9,7 @@ use native.Mathlib.Omega.{arith}
 use borrow.Author.Tests.{ltb-true}
 use lib.Dec.{ltb}
 use lib.ListN.{length}
-use Rattle.body.proofs.Walks.{by-cond}
+use Rattle.tlvs.proofs.Walks.{by-cond}
 use Rattle.writer.proofs.Bools.{never, and-l, and-r}
 use Rattle.limit.specs.Limit.{room, chargedMeter}
 use Rattle.limit.specs.Owing.{following}

@@ -2,7 +2,7 @@
 use mathlib.Core.Path.{_≡_, refl, _∙_}
 use Prim.Native.Nat.{ℕ}
 use lib.ListN.{length}
-use Rattle.body.proofs.Walks.{by-cond}
+use Rattle.tlvs.proofs.Walks.{by-cond}
 use Rattle.end.specs.declared.End.{End}
 use Rattle.end.specs.declared.Shown.{Shown}
 use Rattle.end.specs.declared.Shown.the-variants.{Nothing}

@@ -5,7 +5,7 @@ use mathlib.Core.Path.{_≡_, refl, ap, _∙_}
 use mathlib.Core.List.{List, [], _∷_}
 use mathlib.Core.Bool.{Bool}
 use lib.Dec.{leb}
-use Rattle.body.proofs.Walks.{by-cond}
+use Rattle.tlvs.proofs.Walks.{by-cond}
 use Rattle.limit.specs.Limit.{turnedMeter}
 use Rattle.limit.specs.Owing.{following}
 use Rattle.limit.specs.declared.Meter.{Meter}

@@ -8,8 +8,8 @@ use lib.ListN.{replicate}
 use Rattle.frame.specs.Flags.{joined}
 use Rattle.frame.specs.Frame.{Body, information, loopback, headerAnswer, bodyAnswer, decode}
 use Rattle.body.specs.Information.{local, informationAt, informationStep, informationWalk}
-use Rattle.body.specs.Tlvs.{tlvAt, markAt}
-use Rattle.body.specs.Walk.{walk}
+use Rattle.tlvs.specs.Tlvs.{tlvAt, markAt}
+use Rattle.tlvs.specs.Walk.{walk}
 use Rattle.body.specs.declared.Information.{Information}
 use Rattle.writer.specs.Encode.{headerOctets, informationOctets, encode}
 use Rattle.writer.specs.Plain.{plainFlags, plainInformation, plain, sized}

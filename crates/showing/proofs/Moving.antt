@@ -9,19 +9,19 @@ use borrow.Author.Tests.{leb-true, leb-false, le-leb, lt-leb}
 use lib.Dec.{ltb, leb, eqb}
 use lib.ListN.{length, getD, drop, length-drop}
 use lib.Seq.{getD-drop, drop-drop}
-use Rattle.body.specs.Octets.{num}
-use Rattle.body.specs.Walk.{Next, stop, broken, skip, has, over, part, onNext, walk}
-use Rattle.body.specs.Tlvs.{tlvAt, row, known, marked, markAt}
+use Rattle.tlvs.specs.Octets.{num}
+use Rattle.tlvs.specs.Walk.{Next, stop, broken, skip, has, over, part, onNext, walk}
+use Rattle.tlvs.specs.Tlvs.{tlvAt, row, known, marked, markAt}
 use Rattle.body.specs.Information.{informationAt, stepOf as informationOf, informationStep, nextOf as informationNext}
-use Rattle.body.specs.Events.{fieldsAt, eventOf, eventAt, stepOf as eventsOf, eventStep, nextOf as eventNext}
+use Rattle.tlvs.specs.Events.{fieldsAt, eventOf, eventAt, stepOf as eventsOf, eventStep, nextOf as eventNext}
 use Rattle.body.specs.Variables.{descriptorStep, descriptorNext, widthOf, containerFrom, containerStep, containerNext}
-use Rattle.body.specs.declared.Event.{Event}
-use Rattle.body.specs.declared.tlvs.Tlv.{Tlv}
-use Rattle.body.specs.declared.tlvs.Tlv.the-variants.{End as TlvEnd, Broken as TlvBroken, At}
-use Rattle.body.specs.declared.tlvs.Mark.{Mark}
-use Rattle.body.specs.declared.tlvs.Mark.the-variants.{End as MarkEnd, Broken as MarkBroken, Unknown, Known}
-use Rattle.body.specs.declared.tlvs.Kind.{Kind}
-use Rattle.body.specs.declared.tlvs.Kind.the-variants.{Information, Events}
+use Rattle.tlvs.specs.declared.Event.{Event}
+use Rattle.tlvs.specs.declared.tlvs.Tlv.{Tlv}
+use Rattle.tlvs.specs.declared.tlvs.Tlv.the-variants.{End as TlvEnd, Broken as TlvBroken, At}
+use Rattle.tlvs.specs.declared.Mark.{Mark}
+use Rattle.tlvs.specs.declared.Mark.the-variants.{End as MarkEnd, Broken as MarkBroken, Unknown, Known}
+use Rattle.tlvs.specs.declared.Kind.{Kind}
+use Rattle.tlvs.specs.declared.Kind.the-variants.{Information, Events}
 use Rattle.body.specs.declared.DescriptorStep.{DescriptorStep}
 use Rattle.body.specs.declared.DescriptorStep.the-variants.{End as DescriptorEnd, Broken as DescriptorBroken, Has}
 use Rattle.body.specs.declared.ContainerStep.{ContainerStep}

@@ -5,13 +5,13 @@ use mathlib.Core.List.{List}
 use native.Mathlib.Nat.{add-zero}
 use native.Mathlib.Omega.{arith}
 use lib.ListN.{length, drop, length-drop}
-use Rattle.body.specs.Walk.{Next, walk, met}
+use Rattle.tlvs.specs.Walk.{Next, walk, met}
 use Rattle.body.specs.Information.{informationStep, nextOf as informationNext, informationWalk}
-use Rattle.body.specs.Events.{eventStep, nextOf as eventNext, eventWalk}
+use Rattle.tlvs.specs.Events.{eventStep, nextOf as eventNext, eventWalk}
 use Rattle.body.specs.Variables.{descriptorStep, descriptorNext, descriptorWalk, containerStep, containerNext, containerWalk}
 use Rattle.frame.specs.Frame.{Body, information, notification, request, response, loopback, organization, Message, accepted, decode}
 use Rattle.frame.specs.Steps.{Stepped}
-use Rattle.body.proofs.Walks.{Leads, enough}
+use Rattle.tlvs.proofs.Walks.{Leads, enough}
 use Rattle.body.proofs.Gathering.{information-leads}
 use Rattle.body.proofs.Places.{event-leads, descriptor-leads, container-leads}
 use Rattle.frame.proofs.Stepping.{steps-give-parts}

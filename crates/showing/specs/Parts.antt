@@ -3,15 +3,15 @@
 use Prim.Native.Nat.{ℕ, _-_}
 use mathlib.Core.List.{List, [], _∷_}
 use Rattle.body.specs.Information.{informationStep}
-use Rattle.body.specs.Events.{eventStep}
+use Rattle.tlvs.specs.Events.{eventStep}
 use Rattle.body.specs.Variables.{descriptorStep, containerStep}
 use Rattle.frame.specs.Frame.{decode, readingOf}
 use Rattle.frame.specs.declared.Reading.{Reading}
 use Rattle.frame.specs.declared.Reading.the-variants.{Refused, Information, Notification, Request, Response, Loopback, Organization}
 use Rattle.body.specs.declared.InformationStep.{InformationStep}
 use Rattle.body.specs.declared.InformationStep.the-variants.{End as InformationEnd, Broken as InformationBroken, Skip as InformationSkip, Local, Remote}
-use Rattle.body.specs.declared.EventStep.{EventStep}
-use Rattle.body.specs.declared.EventStep.the-variants.{End as EventEnd, Broken as EventBroken, Skip as EventSkip, Has as HasEvent}
+use Rattle.tlvs.specs.declared.EventStep.{EventStep}
+use Rattle.tlvs.specs.declared.EventStep.the-variants.{End as EventEnd, Broken as EventBroken, Skip as EventSkip, Has as HasEvent}
 use Rattle.body.specs.declared.DescriptorStep.{DescriptorStep}
 use Rattle.body.specs.declared.DescriptorStep.the-variants.{End as DescriptorEnd, Broken as DescriptorBroken, Has as HasDescriptor}
 use Rattle.body.specs.declared.ContainerStep.{ContainerStep}

@@ -3,9 +3,9 @@ use Prim.Native.Nat.{ℕ}
 use mathlib.Core.Path.{_≡_}
 use mathlib.Core.List.{List}
 use lib.ListN.{length}
-use Rattle.body.specs.Walk.{walk, met}
+use Rattle.tlvs.specs.Walk.{walk, met}
 use Rattle.body.specs.Information.{informationStep, nextOf as informationNext}
-use Rattle.body.specs.Events.{eventStep, nextOf as eventNext}
+use Rattle.tlvs.specs.Events.{eventStep, nextOf as eventNext}
 use Rattle.body.specs.Variables.{descriptorStep, descriptorNext, containerStep, containerNext}
 use Rattle.frame.specs.Frame.{Body, information, notification, request, response, loopback, organization}
 

@@ -2,7 +2,7 @@
 ghost use mathlib.Core.List.{[], _∷_};
 ghost use lib.ListN.{length};
 ghost use Rattle.body.specs.Information.{informationStep};
-ghost use Rattle.body.specs.Events.{eventStep};
+ghost use Rattle.tlvs.specs.Events.{eventStep};
 ghost use Rattle.body.specs.Variables.{descriptorStep, containerStep};
 ghost use Rattle.writer.specs.Encode.{informationValues, eventValues};
 ghost use Rattle.showing.specs.Showing.{shows, Showing};
@@ -10,11 +10,11 @@ ghost use Rattle.showing.specs.Parts.{informationShown, eventShown, desc
 use crate::storing::show;
 use body::ContainerStep;
 use body::DescriptorStep;
-use body::Event;
-use body::EventStep;
 use body::Information;
 use body::InformationStep;
 use frame::Reading;
+use tlvs::Event;
+use tlvs::EventStep;
 
 // A skipped part: only the octet after it is shown.
 fn show_next(lent: &mut [u64], next: usize) -> u64
@@ -75,7 +75,7 @@ fn show_values(lent: &mut [u64], event: Event, next: usize) -> u64
 fn show_event(lent: &mut [u64], frame: &[u8], at: usize) -> u64
     ensures { λ r. ⌜ Showing (eventShown (eventStep (now (frame .entry)) at)) (now (lent .entry)) r (now (lent .exit)) ⌝ }
 {
-    match body::event_step(frame, at) {
+    match tlvs::event_step(frame, at) {
         EventStep::End => 1,
         EventStep::Broken => 2,
         EventStep::Skip(next) => show_next(lent, next),

@@ -5,17 +5,17 @@ use mathlib.Core.List.{List, _∷_, _++_}
 use native.Mathlib.Omega.{arith}
 use borrow.Author.Tests.{le-leb}
 use lib.ListN.{length, drop}
-use Rattle.body.specs.Tlvs.{row, eventLength, markAt}
-use Rattle.body.specs.Walk.{Next, has}
-use Rattle.body.specs.Events.{fieldsAt, eventOf, eventAt, stepOf, eventStep, nextOf}
-use Rattle.body.specs.declared.tlvs.Mark.{Mark}
-use Rattle.body.specs.declared.tlvs.Mark.the-variants.{End, Broken, Unknown, Known}
-use Rattle.body.specs.declared.tlvs.Kind.the-variants.{Events as EventKind}
-use Rattle.body.specs.declared.Event.{Event}
-use Rattle.body.specs.declared.EventStep.the-variants.{Has}
-use Rattle.body.proofs.Numbers.{Octets}
-use Rattle.body.proofs.Rows.{four}
-use Rattle.body.proofs.Marks.{Marked, mark-within, event-tabled}
+use Rattle.tlvs.specs.Tlvs.{row, eventLength, markAt}
+use Rattle.tlvs.specs.Walk.{Next, has}
+use Rattle.tlvs.specs.Events.{fieldsAt, eventOf, eventAt, stepOf, eventStep, nextOf}
+use Rattle.tlvs.specs.declared.Mark.{Mark}
+use Rattle.tlvs.specs.declared.Mark.the-variants.{End, Broken, Unknown, Known}
+use Rattle.tlvs.specs.declared.Kind.the-variants.{Events as EventKind}
+use Rattle.tlvs.specs.declared.Event.{Event}
+use Rattle.tlvs.specs.declared.EventStep.the-variants.{Has}
+use Rattle.tlvs.proofs.Numbers.{Octets}
+use Rattle.tlvs.proofs.Rows.{four}
+use Rattle.tlvs.proofs.Marks.{Marked, mark-within, event-tabled}
 use Rattle.writer.specs.Octets.{octs, fit}
 use Rattle.writer.specs.Encode.{eventValues, eventOctets}
 use Rattle.writer.specs.Plain.{plainEvent}

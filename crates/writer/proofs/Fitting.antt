@@ -9,12 +9,12 @@ use borrow.Author.Tests.{eqb-true}
 use lib.ListN.{getD, drop}
 use lib.Dec.{eqb}
 use Rattle.body.specs.Information.{informationWalk}
-use Rattle.body.specs.Events.{eventWalk}
+use Rattle.tlvs.specs.Events.{eventWalk}
 use Rattle.body.specs.Variables.{descriptorWalk}
 use Rattle.frame.specs.Frame.{Body, information, notification, request, response, loopback, organization, Message, codeOf, Answer, accepted, bodyAnswer, decode}
 use Rattle.frame.specs.Steps.{Stepped}
-use Rattle.body.proofs.Numbers.{Octets, num-lt}
-use Rattle.body.proofs.Walks.{by-cond}
+use Rattle.tlvs.proofs.Numbers.{Octets, num-lt}
+use Rattle.tlvs.proofs.Walks.{by-cond}
 use Rattle.frame.proofs.Stepping.{steps-give-parts}
 use Rattle.writer.specs.Plain.{every, plainEvent, plainDescriptor}
 use Rattle.writer.proofs.Bools.{one-of}

@@ -8,19 +8,19 @@ use native.Mathlib.Nat.{add-assoc}
 use borrow.Author.Tests.{eqb-true, eqb-false}
 use lib.ListN.{length, getD, drop}
 use lib.Dec.{eqb}
-use Rattle.body.specs.Tlvs.{informationLength, markAt}
-use Rattle.body.specs.Events.{fieldsAt}
-use Rattle.body.specs.Walk.{Next, has, parts}
+use Rattle.tlvs.specs.Tlvs.{informationLength, markAt}
+use Rattle.tlvs.specs.Events.{fieldsAt}
+use Rattle.tlvs.specs.Walk.{Next, has, parts}
 use Rattle.body.specs.Information.{informationAt, stepOf, informationStep, InformationPart, local, remote, nextOf, informationParts}
-use Rattle.body.specs.declared.tlvs.Mark.{Mark}
-use Rattle.body.specs.declared.tlvs.Mark.the-variants.{End, Broken, Unknown, Known}
-use Rattle.body.specs.declared.tlvs.Kind.the-variants.{Information as InformationKind}
+use Rattle.tlvs.specs.declared.Mark.{Mark}
+use Rattle.tlvs.specs.declared.Mark.the-variants.{End, Broken, Unknown, Known}
+use Rattle.tlvs.specs.declared.Kind.the-variants.{Information as InformationKind}
 use Rattle.body.specs.declared.Information.{Information}
 use Rattle.body.specs.declared.InformationStep.{InformationStep}
 use Rattle.body.specs.declared.InformationStep.the-variants.{Local, Remote}
-use Rattle.body.proofs.Numbers.{Octets}
-use Rattle.body.proofs.Walks.{by-cond}
-use Rattle.body.proofs.Marks.{Marked, mark-within, information-16}
+use Rattle.tlvs.proofs.Numbers.{Octets}
+use Rattle.tlvs.proofs.Walks.{by-cond}
+use Rattle.tlvs.proofs.Marks.{Marked, mark-within, information-16}
 use Rattle.writer.specs.Octets.{octs, fit}
 use Rattle.writer.specs.Encode.{informationWidths, informationValues, informationOctets, partOctets}
 use Rattle.writer.specs.Plain.{every, plainInformation, plainParts}

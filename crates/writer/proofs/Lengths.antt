@@ -8,13 +8,13 @@ use native.Mathlib.Nat.{mul-zero, mul-suc}
 use borrow.Author.Tests.{leb-true, le-ltb, ne-eqb}
 use lib.ListN.{length, length-append, length-replicate}
 use lib.Dec.{leb}
-use Rattle.body.specs.Octets.{total}
-use Rattle.body.specs.Tlvs.{row, eventLength}
+use Rattle.tlvs.specs.Octets.{total}
+use Rattle.tlvs.specs.Tlvs.{row, eventLength}
 use Rattle.body.specs.Information.{InformationPart, local, remote}
 use Rattle.frame.specs.Frame.{Body, Message, codeOf}
 use Rattle.body.specs.declared.Information.{Information}
-use Rattle.body.specs.declared.Event.{Event}
-use Rattle.body.proofs.Rows.{row-of}
+use Rattle.tlvs.specs.declared.Event.{Event}
+use Rattle.tlvs.proofs.Rows.{row-of}
 use Rattle.writer.specs.Octets.{oct, octs, fit}
 use Rattle.writer.specs.Encode.{headerOctets, informationOctets, partOctets, eventValues, eventOctets, joined, bodyOctets, padded, encode}
 use Rattle.writer.specs.Plain.{every, plainEvent, eventsLength}

@@ -9,17 +9,17 @@ use borrow.Author.Tests.{eqb-true, le-ltb, lt-leb, eq-eqb, ne-eqb}
 use lib.ListN.{length, getD, drop, length-append, length-drop}
 use lib.Seq.{getD-drop}
 use lib.Dec.{ltb, leb, eqb}
-use Rattle.body.specs.Octets.{num, total}
-use Rattle.body.specs.Tlvs.{tlvAt, known, marked, markAt}
-use Rattle.body.specs.Events.{fieldsAt}
-use Rattle.body.specs.declared.tlvs.Tlv.{Tlv}
-use Rattle.body.specs.declared.tlvs.Tlv.the-variants.{End as TlvEnd, Broken as TlvBroken, At}
-use Rattle.body.specs.declared.tlvs.Mark.{Mark}
-use Rattle.body.specs.declared.tlvs.Mark.the-variants.{End, Broken, Unknown, Known}
-use Rattle.body.specs.declared.tlvs.Kind.{Kind}
-use Rattle.body.proofs.Numbers.{Octets}
-use Rattle.body.proofs.Walks.{by-cond}
-use Rattle.body.proofs.Marks.{Marked, mark-within}
+use Rattle.tlvs.specs.Octets.{num, total}
+use Rattle.tlvs.specs.Tlvs.{tlvAt, known, marked, markAt}
+use Rattle.tlvs.specs.Events.{fieldsAt}
+use Rattle.tlvs.specs.declared.tlvs.Tlv.{Tlv}
+use Rattle.tlvs.specs.declared.tlvs.Tlv.the-variants.{End as TlvEnd, Broken as TlvBroken, At}
+use Rattle.tlvs.specs.declared.Mark.{Mark}
+use Rattle.tlvs.specs.declared.Mark.the-variants.{End, Broken, Unknown, Known}
+use Rattle.tlvs.specs.declared.Kind.{Kind}
+use Rattle.tlvs.proofs.Numbers.{Octets}
+use Rattle.tlvs.proofs.Walks.{by-cond}
+use Rattle.tlvs.proofs.Marks.{Marked, mark-within}
 use Rattle.writer.specs.Octets.{octs, fit}
 use Rattle.writer.proofs.Lengths.{length-octs}
 use Rattle.writer.proofs.Numbers.{past, fields-read, fields-again}

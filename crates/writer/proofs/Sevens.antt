@@ -8,9 +8,9 @@ use borrow.Author.Tests.{eqb-true, leb-true, le-leb, lt-leb, lt-ltb, le-ltb, ne-
 use lib.Dec.{leb, eqb}
 use lib.ListN.{length, getD, take, drop, length-take, length-append}
 use lib.Seq.{sets, drop-drop}
-use Rattle.body.specs.Tlvs.{row, widthsOf, eventLength}
+use Rattle.tlvs.specs.Tlvs.{row, widthsOf, eventLength}
 use Rattle.frame.specs.Frame.{notification}
-use Rattle.body.specs.declared.Event.{Event}
+use Rattle.tlvs.specs.declared.Event.{Event}
 use Rattle.writer.specs.Octets.{oct, octs, fit}
 use Rattle.writer.specs.Encode.{eventValues, eventOctets, joined}
 use Rattle.writer.specs.Plain.{between, every, plainEvent, plainEvents, eventsLength, plainBody}

@@ -2,11 +2,11 @@
 use Prim.Native.Nat.{ℕ, _-_}
 use mathlib.Core.List.{List, [], _∷_, _++_}
 use lib.ListN.{length, replicate}
-use Rattle.body.specs.Tlvs.{row, eventLength}
+use Rattle.tlvs.specs.Tlvs.{row, eventLength}
 use Rattle.body.specs.Information.{InformationPart, local, remote}
 use Rattle.frame.specs.Frame.{Body, information, notification, request, response, loopback, organization, Message, codeOf}
 use Rattle.body.specs.declared.Information.{Information}
-use Rattle.body.specs.declared.Event.{Event}
+use Rattle.tlvs.specs.declared.Event.{Event}
 use Rattle.body.specs.declared.Held.{Held}
 use Rattle.body.specs.declared.Held.the-variants.{Nothing, Is}
 use Rattle.writer.specs.Octets.{oct, octs}

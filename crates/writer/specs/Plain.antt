@@ -5,14 +5,14 @@ use mathlib.Core.Bool.{Bool, true, false, cond, not, _&&_, _||_}
 use lib.ListN.{length, drop}
 use lib.Dec.{ltb, leb, eqb}
 use Rattle.frame.specs.Flags.{flagsOf}
-use Rattle.body.specs.Tlvs.{row, eventLength}
-use Rattle.body.specs.Walk.{Walk, ends, breaks, over, part}
+use Rattle.tlvs.specs.Tlvs.{row, eventLength}
+use Rattle.tlvs.specs.Walk.{Walk, ends, breaks, over, part}
 use Rattle.body.specs.Information.{InformationPart, local, remote, informationWalk}
-use Rattle.body.specs.Events.{eventWalk}
+use Rattle.tlvs.specs.Events.{eventWalk}
 use Rattle.body.specs.Variables.{descriptorWalk}
 use Rattle.frame.specs.Frame.{Body, information, notification, request, response, loopback, organization, Message, Answer, refused, accepted, decode}
 use Rattle.body.specs.declared.Information.{Information}
-use Rattle.body.specs.declared.Event.{Event}
+use Rattle.tlvs.specs.declared.Event.{Event}
 use Rattle.writer.specs.Octets.{fit}
 use Rattle.writer.specs.Encode.{informationWidths, informationValues, eventValues}
 

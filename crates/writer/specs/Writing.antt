@@ -7,10 +7,10 @@ use lib.ListN.{length, getD, drop}
 use lib.Seq.{sets}
 use lib.Dec.{ltb, eqb}
 use Rattle.body.specs.Information.{InformationPart, local, remote}
-use Rattle.body.specs.Tlvs.{eventLength}
-use Rattle.body.specs.Events.{eventOf}
+use Rattle.tlvs.specs.Tlvs.{eventLength}
+use Rattle.tlvs.specs.Events.{eventOf}
 use Rattle.frame.specs.Frame.{Body, information, notification, request, loopback, organization, Message}
-use Rattle.body.specs.declared.Event.{Event}
+use Rattle.tlvs.specs.declared.Event.{Event}
 use Rattle.body.specs.declared.Found.{Found}
 use Rattle.body.specs.declared.Information.{Information}
 use Rattle.body.specs.declared.Held.{Held}

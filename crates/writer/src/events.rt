@@ -4,7 +4,7 @@ ghost use mathlib.Core.Bool.{true};
 ghost use Prim.Native.Nat.{_+_, _≤_};
 ghost use lib.ListN.{length, getD};
 ghost use lib.Seq.{sets};
-ghost use Rattle.body.specs.Tlvs.{eventLength};
+ghost use Rattle.tlvs.specs.Tlvs.{eventLength};
 ghost use Rattle.frame.specs.Frame.{notification};
 ghost use Rattle.writer.specs.Encode.{eventOctets, joined};
 ghost use Rattle.writer.specs.Plain.{plainEvents, eventsLength, sized};
@@ -32,7 +32,7 @@ pub fn plain_event(event: &[u64]) -> bool
     if 4 < kind {
         return false;
     }
-    let widths = body::event_widths(kind as u8);
+    let widths = tlvs::event_widths(kind as u8);
     all_fit(&widths, &event[1..])
 }
 
@@ -41,7 +41,7 @@ fn event_octets(event: &[u64]) -> usize
     ensures { λ r. ⌜ r ≡ measuredSeven (now (event .entry)) ⌝ }
 {
     if plain_event(event) {
-        return body::event_length(event[0] as u8);
+        return tlvs::event_length(event[0] as u8);
     }
     0
 }
@@ -91,8 +91,8 @@ fn put_event(out: &mut [u8], at: usize, event: &[u64]) -> usize
     ensures { λ r. ⌜ (r ≡ eventLength (getD (now (event .entry)) 0 0)) × (now (out .exit) ≡ sets (now (out .entry)) at (eventOctets (eventFrom (now (event .entry))))) ⌝ }
 {
     let kind = event[0] as u8;
-    let octets = body::event_length(kind);
-    let widths = body::event_widths(kind);
+    let octets = tlvs::event_length(kind);
+    let widths = tlvs::event_widths(kind);
     put_number(out, at, 1, kind as u64);
     put_number(out, at + 1, 1, octets as u64);
     put_fields(out, at + 2, &widths, &event[1..]);

@@ -4,7 +4,7 @@ ghost use Prim.Native.Nat.{_+_, _^_, _≤_};
 ghost use lib.Dec.{ltb};
 ghost use lib.ListN.{length, replicate};
 ghost use lib.Seq.{sets};
-ghost use Rattle.body.specs.Octets.{total};
+ghost use Rattle.tlvs.specs.Octets.{total};
 ghost use Rattle.writer.specs.Octets.{oct, octs, fit};
 
 // Stores a number in width octets from octet at.

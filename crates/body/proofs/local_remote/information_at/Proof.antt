@@ -4,7 +4,7 @@ use native.Mathlib.Omega.{arith}
 use lib.ListN.{getD}
 use denote.Ref.{now}
 use Rattle.body.specs.Information.{informationAt}
-use Rattle.body.proofs.Numbers.{num-one, num-two, num-three, num-four, octet-at}
+use Rattle.tlvs.proofs.Numbers.{num-one, num-two, num-three, num-four, octet-at}
 use borrow.Author.Needs.{needs}
 use Rattle.body.proofs.local_remote.information_at.Statement.{statement}
 use Rattle.body.proofs.local_remote.information_at.Tie as tie

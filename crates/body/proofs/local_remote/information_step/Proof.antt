@@ -4,11 +4,11 @@ use native.Mathlib.Omega.{arith}
 use borrow.Author.Tests.{eq-eqb, ne-eqb}
 use lib.ListN.{length}
 use denote.Ref.{now}
-use Rattle.body.specs.Tlvs.{markAt}
+use Rattle.tlvs.specs.Tlvs.{markAt}
 use Rattle.body.specs.Information.{informationStep}
-use Rattle.body.specs.declared.tlvs.Mark.the-variants.{Known}
-use Rattle.body.specs.declared.tlvs.Kind.the-variants.{Information}
-use Rattle.body.proofs.Marks.{Marked, mark-within, information-16}
+use Rattle.tlvs.specs.declared.Mark.the-variants.{Known}
+use Rattle.tlvs.specs.declared.Kind.the-variants.{Information}
+use Rattle.tlvs.proofs.Marks.{Marked, mark-within, information-16}
 use borrow.Author.Needs.{needs}
 use Rattle.body.proofs.local_remote.information_step.Statement.{statement}
 use Rattle.body.proofs.local_remote.information_step.Tie as tie

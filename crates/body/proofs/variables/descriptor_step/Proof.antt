@@ -2,7 +2,7 @@ use Prim.Native.Nat.{ℕ, _+_}
 use mathlib.Core.Path.{refl, ap, _∙_}
 use denote.Ref.{now}
 use Rattle.body.specs.declared.DescriptorStep.the-variants.{Has}
-use Rattle.body.proofs.Numbers.{num-three}
+use Rattle.tlvs.proofs.Numbers.{num-three}
 use borrow.Author.Tests.{eq-eqb, le-leb, le-ltb, lt-leb, lt-ltb, ne-eqb}
 use Rattle.body.specs.Variables.{descriptorStep}
 use borrow.Author.Needs.{needs}

@@ -1,6 +1,6 @@
 use native.Mathlib.Omega.{arith}
 use Rattle.frame.specs.Flags.{joined}
-use Rattle.body.proofs.Numbers.{mask-3, bit-lt, flags-sum}
+use Rattle.tlvs.proofs.Numbers.{mask-3, bit-lt, flags-sum}
 use borrow.Author.Needs.{needs}
 use Rattle.frame.proofs.flag_bits.join_flags.Statement.{statement}
 use Rattle.frame.proofs.flag_bits.join_flags.Tie as tie

@@ -1,4 +1,4 @@
-use Rattle.body.proofs.Numbers.{mask-1, mask-3}
+use Rattle.tlvs.proofs.Numbers.{mask-1, mask-3}
 use Rattle.frame.proofs.flag_bits.split_flags.Statement.{statement}
 use Rattle.frame.proofs.flag_bits.split_flags.Tie as tie
 

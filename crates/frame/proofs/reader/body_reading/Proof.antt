@@ -3,7 +3,7 @@ use mathlib.Core.Path.{_≡_, ap, _∙_}
 use denote.Ref.{now}
 use borrow.Author.Tests.{ne-eqb}
 use lib.Dec.{eqb}
-use Rattle.body.specs.Octets.{num}
+use Rattle.tlvs.specs.Octets.{num}
 use Rattle.body.specs.Gathering.{gatheredOf}
 use Rattle.frame.specs.Reader.{bodyReading, gatheredReading}
 use borrow.Author.Needs.{needs}

@@ -1,7 +1,7 @@
 use mathlib.Core.Path.{_≡_}
 use denote.Ref.{now}
 use borrow.Author.Tests.{eq-eqb, le-ltb, lt-ltb, ne-eqb}
-use Rattle.body.specs.Octets.{num}
+use Rattle.tlvs.specs.Octets.{num}
 use Rattle.frame.specs.Frame.{headerAnswer}
 use borrow.Author.Needs.{needs}
 use Rattle.frame.proofs.reader.header_answer.Statement.{statement}

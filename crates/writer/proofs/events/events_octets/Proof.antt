@@ -7,8 +7,8 @@ use native.Mathlib.Omega.{arith}
 use borrow.Author.Needs.{needs}
 use denote.Ref.{now}
 use lib.ListN.{length, take, drop, length-drop}
-use Rattle.body.specs.Tlvs.{eventLength}
-use Rattle.body.specs.declared.Event.{Event}
+use Rattle.tlvs.specs.Tlvs.{eventLength}
+use Rattle.tlvs.specs.declared.Event.{Event}
 use Rattle.writer.specs.Plain.{every, plainEvent, eventsLength}
 use Rattle.writer.specs.Writing.{eventFrom, eventsFrom, measuredSeven}
 use Rattle.writer.proofs.Sevens.{next-event, measured-take, measure-zero, measure-more, none-odd, none-fewer, none-more, measured-in}

@@ -6,8 +6,8 @@ use native.Mathlib.Omega.{arith}
 use borrow.Author.Tests.{ne-eqb, eq-eqb, lt-leb, le-leb}
 use denote.Ref.{now}
 use lib.Seq.{take-all}
-use Rattle.body.specs.Tlvs.{widthsOf}
-use Rattle.body.proofs.Rows.{row-of}
+use Rattle.tlvs.specs.Tlvs.{widthsOf}
+use Rattle.tlvs.proofs.Rows.{row-of}
 use Rattle.writer.specs.Octets.{fit}
 use Rattle.writer.specs.Plain.{plainEvent}
 use Rattle.writer.specs.Writing.{plainSeven}

@@ -5,9 +5,9 @@ use native.Mathlib.Omega.{arith}
 use denote.Ref.{now}
 use lib.ListN.{length, getD, take, drop, length-drop}
 use lib.Seq.{sets, take-all}
-use Rattle.body.specs.Octets.{total}
-use Rattle.body.specs.Tlvs.{row, eventLength}
-use Rattle.body.proofs.Rows.{row-of}
+use Rattle.tlvs.specs.Octets.{total}
+use Rattle.tlvs.specs.Tlvs.{row, eventLength}
+use Rattle.tlvs.proofs.Rows.{row-of}
 use Rattle.writer.specs.Octets.{oct, octs}
 use Rattle.writer.proofs.Lengths.{length-row}
 use Rattle.writer.proofs.Sevens.{Seven, seven-is, widths-row, event-stored}

@@ -8,8 +8,8 @@ use borrow.Author.Needs.{needs}
 use denote.Ref.{now}
 use lib.ListN.{length, take, drop, length-drop}
 use lib.Seq.{sets}
-use Rattle.body.specs.Tlvs.{eventLength}
-use Rattle.body.specs.declared.Event.{Event}
+use Rattle.tlvs.specs.Tlvs.{eventLength}
+use Rattle.tlvs.specs.declared.Event.{Event}
 use Rattle.writer.specs.Encode.{eventOctets, joined}
 use Rattle.writer.specs.Plain.{every, plainEvent, eventsLength}
 use Rattle.writer.specs.Writing.{eventFrom, plainSeven, eventsFrom}

@@ -3,7 +3,7 @@ use mathlib.Core.Path.{sym, ap}
 use native.Mathlib.Omega.{arith}
 use borrow.Author.Tests.{lt-ltb}
 use lib.Dec.{ltb}
-use Rattle.body.proofs.Numbers.{pow-upto}
+use Rattle.tlvs.proofs.Numbers.{pow-upto}
 use Rattle.writer.proofs.Stores.{limit}
 use borrow.Author.Needs.{needs}
 use Rattle.writer.proofs.octets.fits.Statement.{statement}

@@ -6,8 +6,8 @@ use borrow.Author.Needs.{needs}
 use denote.Ref.{now}
 use lib.ListN.{length, getD, drop, drop-of-length-le}
 use lib.Seq.{sets}
-use Rattle.body.specs.Octets.{total}
-use Rattle.body.proofs.Rows.{total-at}
+use Rattle.tlvs.specs.Octets.{total}
+use Rattle.tlvs.proofs.Rows.{total-at}
 use Rattle.writer.specs.Octets.{octs}
 use Rattle.writer.proofs.Stores.{next-field}
 use Rattle.writer.proofs.octets.put_fields.Statement.{statement}

@@ -1,0 +1,2 @@
+-- What the promises of concluding cite.
+pub mod Concluding

@@ -1,0 +1,4 @@
+pub mod Octets
+pub mod Walk
+pub mod Tlvs
+pub mod Events
