@@ -14,7 +14,6 @@ pub use numbers::numbers_of;
 use reading::end_in;
 use storing::own_octets;
 use storing::peer_octets;
-use storing::put_part;
 use storing::settings_octets;
 
 // The end that a caller keeps in some octets, or 10 where no end is packed to them.
@@ -37,7 +36,7 @@ pub fn pack(e: End, state: &mut [u8])
     let settings = settings_octets(e);
     let peer = peer_octets(e);
     let own = own_octets(e);
-    put_part(state, 0, &settings);
-    put_part(state, 19, &peer);
-    put_part(state, 38, &own);
+    writer::put_octets(state, 0, &settings);
+    writer::put_octets(state, 19, &peer);
+    writer::put_octets(state, 38, &own);
 }

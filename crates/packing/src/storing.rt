@@ -1,8 +1,5 @@
-// The octets of an end, part by part, and a part stored at its place in the 48 that keep it.
-ghost use Prim.Native.Nat.{_+_, _≤_};
+// The octets of an end, part by part.
 ghost use mathlib.Core.Path.{_≡_};
-ghost use lib.ListN.{length};
-ghost use lib.Seq.{sets};
 ghost use Rattle.packing.specs.Octets.{packedPart};
 use crate::numbers::digit;
 use crate::numbers::is_known;
@@ -92,16 +89,4 @@ pub(crate) fn own_octets(e: End) -> [u8; 10]
         digit(own.critical),
         digit(own.owed),
     ]
-}
-
-// Stores octets from octet at of a state.
-pub(crate) fn put_part(state: &mut [u8], at: usize, octets: &[u8])
-    requires { ⌜ at + length (now octets) ≤ length (now state) ⌝ }
-    ensures { λ _. ⌜ now (state .exit) ≡ sets (now (state .entry)) at (now (octets .entry)) ⌝ }
-{
-    let mut i: usize = 0;
-    while i < octets.len() {
-        state[at + i] = octets[i];
-        i += 1;
-    }
 }

@@ -1,14 +1,15 @@
 -- Laws of runs of stores, and one turn of each loop that stores.
-use Prim.Native.Nat.{ℕ, zero, suc, _+_, _-_, _/_, _%_, _^_, _<_, _≤_}
+use Prim.Native.Nat.{ℕ, zero, suc, _+_, _-_, _/_, _%_, _^_, _<_, _≤_, min}
 use mathlib.Core.Path.{_≡_, refl, ap, _∙_}
 use mathlib.Core.List.{List, [], _∷_, _++_}
-use mathlib.Core.Bool.{_&&_}
+use mathlib.Core.Bool.{Bool, true, false, _&&_}
 use native.Mathlib.Numerals.{add-one}
 use native.Mathlib.Nat.{add-zero}
 use native.Mathlib.Omega.{arith}
-use lib.Dec.{ltb}
-use lib.ListN.{length, getD, drop, set, replicate}
-use lib.Seq.{sets, set-comm, drop-cons}
+use borrow.Author.Tests.{leb-true, leb-false}
+use lib.Dec.{ltb, leb}
+use lib.ListN.{length, getD, drop, drop-of-length-le, set, replicate}
+use lib.Seq.{sets, set-comm, set-out, drop-cons}
 use Rattle.writer.specs.Octets.{oct, octs, fit}
 use Rattle.writer.proofs.Lengths.{length-oct}
 
@@ -26,6 +27,19 @@ sets-snoc l at (y ∷ xs) x =
     let e : suc at + length xs ≡ at + suc (length xs) = omega arith in
     sets-snoc (set l at y) (suc at) xs x
     ∙ ap (λ (m : List ℕ). sets m (suc at) xs) (rw e (set-comm l at (at + suc (length xs)) y x (λ p. omega arith)))
+
+-- past the end of a list nothing is stored
+pub none-past : (l : List ℕ) (i : ℕ) (xs : List ℕ) → length l ≤ i → sets l i xs ≡ l
+none-past l i [] h = refl
+none-past l i (x ∷ xs) h = ap (λ (m : List ℕ). sets m (suc i) xs) (set-out l i x h) ∙ none-past l (suc i) xs (omega (arith, h))
+
+-- where all is stored that there is, or all that there is room for, no more is
+pub stored-all : (l : List ℕ) (at i : ℕ) (xs : List ℕ) → at ≤ length l → i ≡ min (length xs) (length l - at) → sets l (at + i) (drop i xs) ≡ l
+stored-all l at i xs h e = whole (leb (length xs) i) refl
+  where
+    whole : (b : Bool) → leb (length xs) i ≡ b → sets l (at + i) (drop i xs) ≡ l
+    whole true t = rw (drop-of-length-le xs (leb-true (length xs) i t))
+    whole false f = none-past l (at + i) (drop i xs) (omega (arith, h, e, leb-false (length xs) i f))
 
 -- a turn of `put_number`: the last octet of what is left
 pub last-first : (l : List ℕ) (at i value : ℕ) → 0 < i → sets l at (oct i value) ≡ sets (set l (at + (i - 1)) (value % 256)) at (oct (i - 1) (value / 256))

@@ -14,6 +14,7 @@ pub use events::plain_event;
 pub use events::write_notification;
 pub use local_remote::write_information;
 pub use octets::fits;
+pub use octets::put_octets;
 pub use requests::request_octets;
 pub use requests::write_request;
 pub use small::organization_octets;

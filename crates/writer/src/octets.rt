@@ -1,6 +1,6 @@
 // Octets stored in a lent output, and whether numbers fit them.
 ghost use mathlib.Core.Path.{_≡_};
-ghost use Prim.Native.Nat.{_+_, _^_, _≤_};
+ghost use Prim.Native.Nat.{_+_, _^_, _≤_, min};
 ghost use lib.Dec.{ltb};
 ghost use lib.ListN.{length, replicate};
 ghost use lib.Seq.{sets};
@@ -33,13 +33,22 @@ pub(crate) fn put_zeros(out: &mut [u8], at: usize, count: usize)
     }
 }
 
-// Stores octets from octet at.
-pub(crate) fn put_octets(out: &mut [u8], at: usize, octets: &[u8])
-    requires { ⌜ at + length (now octets) ≤ length (now out) ⌝ }
+fn smaller(a: usize, b: usize) -> usize
+    ensures { λ r. ⌜ r ≡ min a b ⌝ }
+{
+    if a < b { a } else { b }
+}
+
+// Stores octets from octet at, as far as the output has room for them.
+pub fn put_octets(out: &mut [u8], at: usize, octets: &[u8])
     ensures { λ _. ⌜ now (out .exit) ≡ sets (now (out .entry)) at (now (octets .entry)) ⌝ }
 {
+    if out.len() < at {
+        return;
+    }
+    let count = smaller(octets.len(), out.len() - at);
     let mut i: usize = 0;
-    while i < octets.len() {
+    while i < count {
         out[at + i] = octets[i];
         i += 1;
     }

@@ -21,23 +21,23 @@ peer-octets-requires c κs = search needs
 own-octets-requires : tie.Need-own-octets-requires
 own-octets-requires c κs = search needs
 
-slice-aggregate-put-part : tie.Need-slice-aggregate-put-part
-slice-aggregate-put-part c = search needs
+slice-aggregate-put-octets : tie.Need-slice-aggregate-put-octets
+slice-aggregate-put-octets c = search needs
 
-put-part-requires : tie.Need-put-part-requires
-put-part-requires c κs = search needs
+put-octets-requires : tie.Need-put-octets-requires
+put-octets-requires c κs = search needs
 
-slice-aggregate-put-part-2 : tie.Need-slice-aggregate-put-part-2
-slice-aggregate-put-part-2 c = search needs
+slice-aggregate-put-octets-2 : tie.Need-slice-aggregate-put-octets-2
+slice-aggregate-put-octets-2 c = search needs
 
-put-part-requires-2 : tie.Need-put-part-requires-2
-put-part-requires-2 c κs = search needs
+put-octets-requires-2 : tie.Need-put-octets-requires-2
+put-octets-requires-2 c κs = search needs
 
-slice-aggregate-put-part-3 : tie.Need-slice-aggregate-put-part-3
-slice-aggregate-put-part-3 c = search needs
+slice-aggregate-put-octets-3 : tie.Need-slice-aggregate-put-octets-3
+slice-aggregate-put-octets-3 c = search needs
 
-put-part-requires-3 : tie.Need-put-part-requires-3
-put-part-requires-3 c κs = search needs
+put-octets-requires-3 : tie.Need-put-octets-requires-3
+put-octets-requires-3 c κs = search needs
 
 same-length : tie.Need-same-length
 same-length c = search needs
@@ -52,9 +52,9 @@ returns-2 c =
     (c .before .before .before .before .before .before .before .before .before .before .before .before .before .before .before .before .before .settings-octets .ensures)
     (c .before .before .before .before .before .before .before .before .before .before .before .before .before .before .before .before .peer-octets .ensures)
     (c .before .before .before .before .before .before .before .before .before .before .before .before .before .before .before .own-octets .ensures)
-    (c .before .before .before .before .before .before .before .before .before .before .before .before .put-part .ensures)
-    (c .before .before .before .before .before .before .before .put-part2 .ensures)
-    (c .before .before .put-part3 .ensures))
+    (c .before .before .before .before .before .before .before .before .before .before .before .before .put-octets .ensures)
+    (c .before .before .before .before .before .before .before .put-octets2 .ensures)
+    (c .before .before .put-octets3 .ensures))
 
 pub pack-spec : {M : Type 1} → statement M
 pack-spec =
@@ -64,11 +64,11 @@ pack-spec =
     settings-octets-requires
     peer-octets-requires
     own-octets-requires
-    slice-aggregate-put-part
-    put-part-requires
-    slice-aggregate-put-part-2
-    put-part-requires-2
-    slice-aggregate-put-part-3
-    put-part-requires-3
+    slice-aggregate-put-octets
+    put-octets-requires
+    slice-aggregate-put-octets-2
+    put-octets-requires-2
+    slice-aggregate-put-octets-3
+    put-octets-requires-3
     same-length
     returns-2)

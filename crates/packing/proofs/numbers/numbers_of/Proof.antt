@@ -1,5 +1,14 @@
+use mathlib.Core.Path.{ap, _∙_}
+use mathlib.Core.List.{[], _∷_}
 use borrow.Author.Needs.{needs}
-use Rattle.packing.specs.Numbers.{numbersOf}
+use Rattle.tlvs.specs.Octets.{bitOf}
+use Rattle.peer.specs.Peers.{held, told}
+use Rattle.loopback.specs.Roles.{numberOf}
+use Rattle.limit.specs.declared.Meter.{Meter}
+use Rattle.end.specs.declared.Link.{Link}
+use Rattle.end.specs.declared.Peer.{Peer}
+use Rattle.end.specs.declared.Own.{Own}
+use Rattle.packing.specs.Numbers.{known, lastNumber, numbersOf}
 use Rattle.packing.proofs.numbers.numbers_of.Statement.{statement}
 use Rattle.packing.proofs.numbers.numbers_of.Tie as tie
 
@@ -140,7 +149,54 @@ cast-t48 c = search needs
 
 returns : tie.Need-returns
 unfolding numbersOf
-returns c = simp (c .digit6 .ensures, c .before .digit5 .ensures, c .before .before .digit4 .ensures, c .before .before .before .before .before .written .ensures, c .before .before .before .before .before .before .ticks .ensures, c .before .before .before .before .before .before .before .number .ensures, c .before .before .before .before .before .before .before .before .last-number .ensures, c .before .before .before .before .before .before .before .before .before .digit3 .ensures, c .before .before .before .before .before .before .before .before .before .before .is-known .ensures, c .before .before .before .before .before .before .before .before .before .before .before .before .before .before .before .before .before .before .digit2 .ensures, c .before .before .before .before .before .before .before .before .before .before .before .before .before .before .before .before .before .before .before .is-held .ensures, c .before .before .before .before .before .before .before .before .before .before .before .before .before .before .before .before .before .before .before .before .before .before .digit .ensures, c .before .before .before .before .before .before .before .before .before .before .before .before .before .before .before .before .before .before .before .before .before .before .before .before .before .before .before .before .told .ensures, c .before .before .before .before .before .before .before .before .before .before .before .before .before .before .before .before .before .before .before .before .before .before .before .before .before .before .before .before .before .own .ensures, c .before .before .before .before .before .before .before .before .before .before .before .before .before .before .before .before .before .before .before .before .before .before .before .before .before .before .before .before .before .before .meter .ensures, c .before .before .before .before .before .before .before .before .before .before .before .before .before .before .before .before .before .before .before .before .before .before .before .before .before .before .before .before .before .before .before .role .ensures, c .before .before .before .before .before .before .before .before .before .before .before .before .before .before .before .before .before .before .before .before .before .before .before .before .before .before .before .before .before .before .before .before .peer .ensures, c .before .before .before .before .before .before .before .before .before .before .before .before .before .before .before .before .before .before .before .before .before .before .before .before .before .before .before .before .before .before .before .before .before .link .ensures, c .before .before .before .before .before .before .before .before .before .before .before .before .before .before .before .before .before .before .before .before .before .before .before .before .before .before .before .before .before .before .before .before .before .before .settings .ensures)
+returns c =
+    let settings = c .before .before .before .before .before .before .before .before .before .before .before .before .before .before .before .before .before .before .before .before .before .before .before .before .before .before .before .before .before .before .before .before .before .before .settings .ensures in
+    let link = c .before .before .before .before .before .before .before .before .before .before .before .before .before .before .before .before .before .before .before .before .before .before .before .before .before .before .before .before .before .before .before .before .before .link .ensures in
+    let peer = c .before .before .before .before .before .before .before .before .before .before .before .before .before .before .before .before .before .before .before .before .before .before .before .before .before .before .before .before .before .before .before .before .peer .ensures in
+    let meter = c .before .before .before .before .before .before .before .before .before .before .before .before .before .before .before .before .before .before .before .before .before .before .before .before .before .before .before .before .before .before .meter .ensures in
+    let own = c .before .before .before .before .before .before .before .before .before .before .before .before .before .before .before .before .before .before .before .before .before .before .before .before .before .before .before .before .before .own .ensures in
+    let record-held = c .before .before .before .before .before .before .before .before .before .before .before .before .before .before .before .before .before .before .before .is-held .ensures ∙ ap (λ (p : Peer). held (p .held)) peer in
+    let told-record = c .before .before .before .before .before .before .before .before .before .before .before .before .before .before .before .before .before .before .before .before .before .before .before .before .before .before .before .before .told .ensures ∙ ap (λ (p : Peer). told (p .held)) peer in
+    let last-known = c .before .before .before .before .before .before .before .before .before .before .is-known .ensures ∙ ap (λ (p : Peer). known (p .last)) peer in
+    let last = c .before .before .before .before .before .before .before .before .last-number .ensures ∙ ap (λ (p : Peer). lastNumber (p .last)) peer in
+    let up = c .before .before .before .before .before .before .before .before .before .before .before .before .before .before .before .before .before .before .before .before .before .before .digit .ensures ∙ ap (λ (l : Link). bitOf (l .up)) link in
+    let is-held = c .before .before .before .before .before .before .before .before .before .before .before .before .before .before .before .before .before .before .digit2 .ensures ∙ ap bitOf record-held in
+    let is-known = c .before .before .before .before .before .before .before .before .before .digit3 .ensures ∙ ap bitOf last-known in
+    let role = c .before .before .before .before .before .before .before .number .ensures ∙ ap numberOf (c .before .before .before .before .before .before .before .before .before .before .before .before .before .before .before .before .before .before .before .before .before .before .before .before .before .before .before .before .before .before .before .role .ensures) in
+    let ticks = c .before .before .before .before .before .before .ticks .ensures ∙ ap (λ (m : Meter). m .ticks) meter in
+    let written = c .before .before .before .before .before .written .ensures ∙ ap (λ (m : Meter). m .written) meter in
+    let gasp = c .before .before .digit4 .ensures ∙ ap (λ (o : Own). bitOf (o .gasp)) own in
+    let critical = c .before .digit5 .ensures ∙ ap (λ (o : Own). bitOf (o .critical)) own in
+    let owed = c .digit6 .ensures ∙ ap (λ (o : Own). bitOf (o .owed)) own in
+    λ i.
+    settings i .configuration
+    ∷ settings i .size
+    ∷ settings i .oui
+    ∷ settings i .vendor
+    ∷ settings i .source
+    ∷ settings i .required
+    ∷ up i
+    ∷ link i .lost
+    ∷ peer i .kept
+    ∷ is-held i
+    ∷ told-record i .version
+    ∷ told-record i .revision
+    ∷ told-record i .state
+    ∷ told-record i .configuration
+    ∷ told-record i .oampdu
+    ∷ told-record i .oui
+    ∷ told-record i .vendor
+    ∷ is-known i
+    ∷ last i
+    ∷ role i
+    ∷ ticks i
+    ∷ written i
+    ∷ own i .revision
+    ∷ own i .number
+    ∷ gasp i
+    ∷ critical i
+    ∷ owed i
+    ∷ []
 
 pub numbers-of-spec : {M : Type 1} → statement M
 numbers-of-spec =

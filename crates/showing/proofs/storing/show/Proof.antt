@@ -1,25 +1,20 @@
 -- `showing::storing::show` meets its contract.
-use Prim.Native.Nat.{ℕ, suc, _+_, _-_, _≤_, _<_}
+use Prim.Native.Nat.{ℕ, _+_, _-_, _≤_, _<_}
 use mathlib.Core.Path.{_≡_, refl, sym, ap, _∙_}
-use mathlib.Core.List.{List, [], _∷_}
+use mathlib.Core.List.{List}
 use native.Mathlib.Nat.{zero-add}
 use native.Mathlib.Omega.{arith}
 use borrow.Author.Needs.{needs}
 use denote.Ref.{now}
 use lib.ListN.{length, getD, set, drop, drop-of-length-le}
-use lib.Seq.{sets, set-out}
-use Rattle.writer.proofs.Stores.{next-octet}
+use lib.Seq.{sets}
+use Rattle.writer.proofs.Stores.{next-octet, none-past}
 use Rattle.showing.proofs.storing.show.Statement.{statement}
 use Rattle.showing.proofs.storing.show.Tie as tie
 
 -- a turn of the loop
 next-number : (l : List ℕ) (i : ℕ) (xs : List ℕ) → i < length xs → sets l i (drop i xs) ≡ sets (set l i (getD xs i 0)) (i + 1) (drop (i + 1) xs)
 next-number l i xs h = rw (zero-add i, zero-add (i + 1)) at (next-octet l 0 i xs h)
-
--- past the end of a list nothing is stored
-none-past : (l : List ℕ) (i : ℕ) (xs : List ℕ) → length l ≤ i → sets l i xs ≡ l
-none-past l i [] h = refl
-none-past l i (x ∷ xs) h = ap (λ (m : List ℕ). sets m (suc i) xs) (set-out l i x h) ∙ none-past l (suc i) xs (omega (arith, h))
 
 abbrev Inv-loop : tie.InvT-loop
 Inv-loop lent₀ answer numbers i₀ lent i =
