@@ -8,12 +8,6 @@ pub fn either(a: bool, b: bool) -> bool
     if a { true } else { b }
 }
 
-pub fn both(a: bool, b: bool) -> bool
-    ensures { λ r. ⌜ r ≡ (a && b) ⌝ }
-{
-    if a { b } else { false }
-}
-
 pub fn all_three(a: bool, b: bool, c: bool) -> bool
     ensures { λ r. ⌜ r ≡ (a && (b && c)) ⌝ }
 {

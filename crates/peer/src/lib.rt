@@ -9,7 +9,6 @@ pub use bits::is_loopback;
 pub use bits::is_unidirectional;
 pub use bools::all_four;
 pub use bools::all_three;
-pub use bools::both;
 pub use bools::either;
 pub use peers::held_of;
 pub use peers::is_held;
