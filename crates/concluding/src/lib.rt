@@ -1,6 +1,8 @@
 // How a call on an end that is kept in octets ends: its outcome as one number, and the end after it stored.
 ghost use mathlib.Core.Path.{_≡_};
+ghost use Rattle.link.specs.Outcomes.{outcome};
 ghost use Rattle.concluding.specs.Concluding.{kindOf, steppedNumber, steppedState};
+use end::End;
 use end::Shown;
 use link::Outcome;
 
@@ -23,6 +25,14 @@ fn number(o: Outcome) -> u64
         + (o.length as u64) % 0x100000000 * 256
         + (o.state as u64) * 0x10000000000
         + kind(shown) * 0x1000000000000
+}
+
+// What an entry itself refuses, before the machine is asked: the end stays as it is, and the number tells its State octet.
+pub fn refuse(answer: u8, e: End) -> u64
+    ensures { λ r. ⌜ r ≡ steppedNumber (outcome e answer 0 Shown.Nothing) ⌝ }
+{
+    let role = e.role();
+    (answer as u64) + (role.octet() as u64) * 0x10000000000
 }
 
 // How every call ends: the end after it is stored, unless it was refused.

@@ -3,13 +3,17 @@ use Prim.Native.Nat.{ℕ}
 use mathlib.Core.Path.{_≡_, refl, sym, ap, _∙_}
 use mathlib.Core.List.{List, [], _∷_, _++_}
 use native.Mathlib.Nat.{zero-add}
+use mathlib.Core.Bool.{false}
+use lib.Dec.{eqb}
 use lib.ListN.{length, set}
 use lib.Seq.{sets}
 use Rattle.writer.proofs.Stores.{sets-append}
 use Rattle.end.specs.declared.End.{End}
 use Rattle.end.specs.declared.FreshEnd.{FreshEnd}
 use Rattle.end.specs.declared.FreshEnd.the-variants.{Refused, Is}
+use Rattle.end.specs.declared.Shown.the-variants.{Nothing}
 use Rattle.link.specs.declared.Outcome.{Outcome}
+use Rattle.link.specs.Outcomes.{outcome}
 use Rattle.packing.specs.Octets.{packedIn}
 use Rattle.concluding.specs.Concluding.{steppedNumber, steppedState}
 use Rattle.showing.specs.Showing.{Showing}
@@ -30,6 +34,14 @@ module _ {call : End → Outcome} {output : End → List ℕ → List ℕ} (foun
         writes = p .1;
       })
 
+  -- the entry itself refuses: nothing is stored
+  pub stayed : {e : End} {n answer : ℕ} → found ≡ Is e → call e ≡ outcome e n 0 Nothing → eqb n 0 ≡ false → output e out ≡ out
+      → answer ≡ steppedNumber (outcome e n 0 Nothing)
+      → Stepping call output found state out answer state out
+  unfolding steppedState
+  stayed h o z w a =
+      rw h (record { answers = a ∙ ap steppedNumber (sym o); keeps = rw (o, z); writes = sym w })
+
   pub heard : {e : End} {o : Outcome} {answer : ℕ} {header header′ state′ out′ : List ℕ} {shown : ℕ} → found ≡ Is e
       → (o ≡ call e) × (out′ ≡ output e out)
       → Showing (heardShown (o .shown)) header shown header′
@@ -40,6 +52,11 @@ module _ {call : End → Outcome} {output : End → List ℕ → List ℕ} (foun
         steps = stepped h p q;
         hears = rw h (s .stored ∙ ap (λ (x : Outcome). sets header 0 (heardShown (x .shown) .numbers)) (p .0));
       }
+
+  pub stayed-unheard : {e : End} {n answer : ℕ} {header : List ℕ} → found ≡ Is e → call e ≡ outcome e n 0 Nothing → eqb n 0 ≡ false
+      → output e out ≡ out → answer ≡ steppedNumber (outcome e n 0 Nothing)
+      → Receiving call output found header state out answer header state out
+  stayed-unheard h o z w a = record { steps = stayed h o z w a; hears = rw (h, o) }
 
   pub unheard : {n : ℕ} {header : List ℕ} → found ≡ Refused n → Receiving call output found header state out n header state out
   unheard h = record { steps = refused h; hears = rw h }

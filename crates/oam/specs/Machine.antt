@@ -1,5 +1,5 @@
 -- What the entries of the link machine promise. An end is kept in octets that the caller lends: an entry unpacks it, takes the
--- call, and stores the end after it.
+-- call, and stores the end after it. The calls are those of the theorems' machine (`outcomeBy`, `outputBy` of `reach`).
 use Prim.Native.Nat.{ℕ}
 use mathlib.Core.Path.{_≡_}
 use mathlib.Core.List.{List, [], _∷_, _++_}
@@ -17,9 +17,10 @@ use Rattle.end.specs.declared.Report.the-variants.{LinkUp, LinkDown, DyingGasp,
 use Rattle.end.specs.declared.Shown.{Shown as Heard}
 use Rattle.end.specs.declared.Shown.the-variants.{Nothing, Frame, Events}
 use Rattle.link.specs.declared.Outcome.{Outcome}
+use Rattle.link.specs.Outcomes.{outcome}
+use Rattle.reach.specs.Machine.{report, receive, outcomeBy, outputBy}
 use Rattle.concluding.specs.Concluding.{steppedNumber, steppedState}
 use Rattle.end.specs.State.{freshOf, discoveryOf}
-use Rattle.link.specs.Requests.{Asked, requestOf, requestOutput}
 use Rattle.packing.specs.Numbers.{numbersOf}
 use Rattle.packing.specs.Octets.{packedIn, unpacked}
 use Rattle.showing.specs.Showing.{Shown, shows, roomy}
@@ -27,7 +28,7 @@ use Rattle.showing.specs.Reading.{headerShown}
 
 -- ---- what a call comes to
 
--- what a call gives where no end may be there: the number of its refusal alone, and everything as it was
+-- a call where there may be no end: then the number of its refusal alone, and everything stays as it was
 abbrev pub answered : (End → Outcome) → FreshEnd → ℕ
 answered call (Refused n) = n
 answered call (Is e) = steppedNumber (call e)
@@ -80,9 +81,12 @@ reportFrom n =
     (cond (eqb n 3) (DyingGasp false)
     (cond (eqb n 4) (CriticalEvent true) (CriticalEvent false)))))
 
--- any other number is 10
-unfoldable pub foundFor : ℕ → List ℕ → FreshEnd
-foundFor report state = cond (leb report 5) (unpacked state) (Refused 10)
+-- any other number is 10: the end stays, and so its State octet
+unfoldable pub reportedBy : (number octets : ℕ) → End → Outcome
+reportedBy number octets e = cond (leb number 5) (outcomeBy (report (reportFrom number)) octets e) (outcome e 10 0 Nothing)
+
+unfoldable pub reportedOutput : (number : ℕ) → End → List ℕ → List ℕ
+reportedOutput number e out = cond (leb number 5) (outputBy (report (reportFrom number)) e out) out
 
 -- ---- received frames
 
@@ -92,10 +96,12 @@ heardShown Nothing = shows 0 []
 heardShown (Frame h) = headerShown h 0
 heardShown (Events h n) = headerShown h n
 
--- a header that has some room: 9 where it is too short
-abbrev pub roomyEnd : ℕ → FreshEnd → FreshEnd
-roomyEnd room (Refused n) = Refused n
-roomyEnd room (Is e) = cond (ltb room 4) (Refused 9) (Is e)
+-- a header too short for four numbers is 9: the end stays, and so its State octet
+unfoldable pub receivedBy : List ℕ → (room octets : ℕ) → End → Outcome
+receivedBy frame room octets e = cond (ltb room 4) (outcome e 9 0 Nothing) (outcomeBy (receive frame) octets e)
+
+unfoldable pub receivedOutput : List ℕ → (room : ℕ) → End → List ℕ → List ℕ
+receivedOutput frame room e out = cond (ltb room 4) out (outputBy (receive frame) e out)
 
 abbrev pub heardIn : (End → Outcome) → FreshEnd → List ℕ → List ℕ
 heardIn call (Refused n) header = header
@@ -105,15 +111,6 @@ heardIn call (Is e) header = sets header 0 (heardShown (call e .shown) .numbers)
 pub record Receiving (call : End → Outcome) (output : End → List ℕ → List ℕ) (found : FreshEnd) (header state out : List ℕ) (answer : ℕ) (header′ state′ out′ : List ℕ) : Type 0 where
   pub steps : Stepping call output found state out answer state′ out′
   pub hears : header′ ≡ heardIn call found header
-
--- ---- requests
-
--- a request by what it asks of an end
-abbrev pub asking : (End → Asked) → ℕ → End → Outcome
-asking asked lent e = requestOf (asked e) lent e
-
-abbrev pub askingOutput : (End → Asked) → End → List ℕ → List ℕ
-askingOutput asked e out = requestOutput (asked e) e out
 
 -- ---- what an end shows
 

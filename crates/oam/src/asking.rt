@@ -1,15 +1,15 @@
 // The entries of the five requests, on an end that is kept in 48 octets that the caller lends.
 ghost use lib.ListN.{length};
-ghost use Rattle.link.specs.Requests.{starting, stopping, requesting, notifying, telling};
+ghost use Rattle.reach.specs.Machine.{start, stop, variables, notify, tell, request as requesting, outcomeBy, outputBy};
 ghost use Rattle.packing.specs.Octets.{unpacked};
-ghost use Rattle.oam.specs.Machine.{Stepping, asking, askingOutput};
+ghost use Rattle.oam.specs.Machine.{Stepping};
 use concluding::conclude;
 use end::FreshEnd;
 
 // Starts a remote loopback.
 #[no_mangle]
 pub extern "C" fn oam_start(state: &mut [u8], out: &mut [u8]) -> u64
-    ensures { λ r. ⌜ Stepping (asking starting (length (now (out .entry)))) (askingOutput starting) (unpacked (now (state .entry))) (now (state .entry)) (now (out .entry)) r (now (state .exit)) (now (out .exit)) ⌝ }
+    ensures { λ r. ⌜ Stepping (outcomeBy (requesting start) (length (now (out .entry)))) (outputBy (requesting start)) (unpacked (now (state .entry))) (now (state .entry)) (now (out .entry)) r (now (state .exit)) (now (out .exit)) ⌝ }
 {
     match packing::unpack(state) {
         FreshEnd::Refused(answer) => answer as u64,
@@ -20,7 +20,7 @@ pub extern "C" fn oam_start(state: &mut [u8], out: &mut [u8]) -> u64
 // Stops a remote loopback.
 #[no_mangle]
 pub extern "C" fn oam_stop(state: &mut [u8], out: &mut [u8]) -> u64
-    ensures { λ r. ⌜ Stepping (asking stopping (length (now (out .entry)))) (askingOutput stopping) (unpacked (now (state .entry))) (now (state .entry)) (now (out .entry)) r (now (state .exit)) (now (out .exit)) ⌝ }
+    ensures { λ r. ⌜ Stepping (outcomeBy (requesting stop) (length (now (out .entry)))) (outputBy (requesting stop)) (unpacked (now (state .entry))) (now (state .entry)) (now (out .entry)) r (now (state .exit)) (now (out .exit)) ⌝ }
 {
     match packing::unpack(state) {
         FreshEnd::Refused(answer) => answer as u64,
@@ -31,7 +31,7 @@ pub extern "C" fn oam_stop(state: &mut [u8], out: &mut [u8]) -> u64
 // Asks for the peer's variables. A descriptor is one number, the branch above the leaf's sixteen bits.
 #[no_mangle]
 pub extern "C" fn oam_request(descriptors: &[u32], state: &mut [u8], out: &mut [u8]) -> u64
-    ensures { λ r. ⌜ Stepping (asking (requesting (now (descriptors .entry))) (length (now (out .entry)))) (askingOutput (requesting (now (descriptors .entry)))) (unpacked (now (state .entry))) (now (state .entry)) (now (out .entry)) r (now (state .exit)) (now (out .exit)) ⌝ }
+    ensures { λ r. ⌜ Stepping (outcomeBy (requesting (variables (now (descriptors .entry)))) (length (now (out .entry)))) (outputBy (requesting (variables (now (descriptors .entry))))) (unpacked (now (state .entry))) (now (state .entry)) (now (out .entry)) r (now (state .exit)) (now (out .exit)) ⌝ }
 {
     match packing::unpack(state) {
         FreshEnd::Refused(answer) => answer as u64,
@@ -42,7 +42,7 @@ pub extern "C" fn oam_request(descriptors: &[u32], state: &mut [u8], out: &mut [
 // Notifies the peer of events, each lent as seven numbers: its type and its six values.
 #[no_mangle]
 pub extern "C" fn oam_notify(events: &[u64], state: &mut [u8], out: &mut [u8]) -> u64
-    ensures { λ r. ⌜ Stepping (asking (notifying (now (events .entry))) (length (now (out .entry)))) (askingOutput (notifying (now (events .entry)))) (unpacked (now (state .entry))) (now (state .entry)) (now (out .entry)) r (now (state .exit)) (now (out .exit)) ⌝ }
+    ensures { λ r. ⌜ Stepping (outcomeBy (requesting (notify (now (events .entry)))) (length (now (out .entry)))) (outputBy (requesting (notify (now (events .entry))))) (unpacked (now (state .entry))) (now (state .entry)) (now (out .entry)) r (now (state .exit)) (now (out .exit)) ⌝ }
 {
     match packing::unpack(state) {
         FreshEnd::Refused(answer) => answer as u64,
@@ -53,7 +53,7 @@ pub extern "C" fn oam_notify(events: &[u64], state: &mut [u8], out: &mut [u8]) -
 // Sends an organization's data with its OUI.
 #[no_mangle]
 pub extern "C" fn oam_organization(oui: u32, octets: &[u8], state: &mut [u8], out: &mut [u8]) -> u64
-    ensures { λ r. ⌜ Stepping (asking (telling oui (now (octets .entry))) (length (now (out .entry)))) (askingOutput (telling oui (now (octets .entry)))) (unpacked (now (state .entry))) (now (state .entry)) (now (out .entry)) r (now (state .exit)) (now (out .exit)) ⌝ }
+    ensures { λ r. ⌜ Stepping (outcomeBy (requesting (tell oui (now (octets .entry)))) (length (now (out .entry)))) (outputBy (requesting (tell oui (now (octets .entry))))) (unpacked (now (state .entry))) (now (state .entry)) (now (out .entry)) r (now (state .exit)) (now (out .exit)) ⌝ }
 {
     match packing::unpack(state) {
         FreshEnd::Refused(answer) => answer as u64,

@@ -3,13 +3,12 @@
 ghost use mathlib.Core.Path.{_≡_};
 ghost use Prim.Native.Nat.{_≤_};
 ghost use lib.ListN.{length};
-ghost use Rattle.link.specs.Ticks.{tickOf, tickOutput};
-ghost use Rattle.link.specs.Reports.{reportOf, reportOutput};
-ghost use Rattle.link.specs.Hearing.{receiveOf, receiveOutput};
+ghost use Rattle.reach.specs.Machine.{tick as ticking, outcomeBy, outputBy};
 ghost use Rattle.packing.specs.Octets.{unpacked};
 ghost use Rattle.showing.specs.Showing.{Showing};
-ghost use Rattle.oam.specs.Machine.{Stepping, settingsOf, freshFor, Freshly, reportFrom, foundFor, heardShown, roomyEnd, Receiving, endNumbers, endShown};
+ghost use Rattle.oam.specs.Machine.{Stepping, settingsOf, freshFor, Freshly, reportFrom, reportedBy, reportedOutput, heardShown, receivedBy, receivedOutput, Receiving, endNumbers, endShown};
 use concluding::conclude;
+use concluding::refuse;
 use end::End;
 use end::FreshEnd;
 use end::Report;
@@ -54,7 +53,7 @@ pub extern "C" fn oam_fresh(
 // One tick of 100 ms.
 #[no_mangle]
 pub extern "C" fn oam_tick(state: &mut [u8], out: &mut [u8]) -> u64
-    ensures { λ r. ⌜ Stepping (tickOf (length (now (out .entry)))) tickOutput (unpacked (now (state .entry))) (now (state .entry)) (now (out .entry)) r (now (state .exit)) (now (out .exit)) ⌝ }
+    ensures { λ r. ⌜ Stepping (outcomeBy ticking (length (now (out .entry)))) (outputBy ticking) (unpacked (now (state .entry))) (now (state .entry)) (now (out .entry)) r (now (state .exit)) (now (out .exit)) ⌝ }
 {
     match packing::unpack(state) {
         FreshEnd::Refused(answer) => answer as u64,
@@ -76,17 +75,19 @@ fn report_from(number: u8) -> Report
 }
 
 // One report: 0 link up, 1 link down, 2 and 3 dying gasp set and cleared, 4 and 5 critical event set and cleared; any other
-// number is 10.
+// number is 10, which leaves the end as it is.
 #[no_mangle]
 pub extern "C" fn oam_report(report: u8, state: &mut [u8], out: &mut [u8]) -> u64
-    ensures { λ r. ⌜ Stepping (reportOf (reportFrom report) (length (now (out .entry)))) (reportOutput (reportFrom report)) (foundFor report (now (state .entry))) (now (state .entry)) (now (out .entry)) r (now (state .exit)) (now (out .exit)) ⌝ }
+    ensures { λ r. ⌜ Stepping (reportedBy report (length (now (out .entry)))) (reportedOutput report) (unpacked (now (state .entry))) (now (state .entry)) (now (out .entry)) r (now (state .exit)) (now (out .exit)) ⌝ }
 {
-    if 5 < report {
-        return 10;
-    }
     match packing::unpack(state) {
         FreshEnd::Refused(answer) => answer as u64,
-        FreshEnd::Is(e) => conclude(link::take_report(e, report_from(report), out), state),
+        FreshEnd::Is(e) => {
+            if 5 < report {
+                return refuse(10, e);
+            }
+            conclude(link::take_report(e, report_from(report), out), state)
+        }
     }
 }
 
@@ -102,7 +103,7 @@ fn show_heard(lent: &mut [u64], shown: Shown) -> u64
 }
 
 // One received frame. Of one that is accepted four numbers are stored in the header: source, flags, code, and the event
-// number where the events are new, else 0. A header shorter than that is 9.
+// number where the events are new, else 0. A header shorter than that is 9, which leaves the end as it is.
 #[no_mangle]
 pub extern "C" fn oam_receive(
     frame: &[u8],
@@ -110,13 +111,13 @@ pub extern "C" fn oam_receive(
     state: &mut [u8],
     out: &mut [u8],
 ) -> u64
-    ensures { λ r. ⌜ Receiving (receiveOf (now (frame .entry)) (length (now (out .entry)))) (receiveOutput (now (frame .entry))) (roomyEnd (length (now (header .entry))) (unpacked (now (state .entry)))) (now (header .entry)) (now (state .entry)) (now (out .entry)) r (now (header .exit)) (now (state .exit)) (now (out .exit)) ⌝ }
+    ensures { λ r. ⌜ Receiving (receivedBy (now (frame .entry)) (length (now (header .entry))) (length (now (out .entry)))) (receivedOutput (now (frame .entry)) (length (now (header .entry)))) (unpacked (now (state .entry))) (now (header .entry)) (now (state .entry)) (now (out .entry)) r (now (header .exit)) (now (state .exit)) (now (out .exit)) ⌝ }
 {
     match packing::unpack(state) {
         FreshEnd::Refused(answer) => answer as u64,
         FreshEnd::Is(e) => {
             if header.len() < 4 {
-                return 9;
+                return refuse(9, e);
             }
             let o = link::receive(e, frame, out);
             let shown = o.shown;

@@ -1,11 +1,11 @@
 -- `oam::machine::oam_receive` meets its contract.
-use mathlib.Core.Path.{sym, _∙_}
+use mathlib.Core.Path.{refl, sym, _∙_}
 use borrow.Author.Tests.{lt-ltb, le-ltb}
 use denote.Ref.{now}
 use lib.ListN.{length}
 use Rattle.packing.specs.Octets.{unpacked}
-use Rattle.oam.specs.Machine.{roomyEnd}
-use Rattle.oam.proofs.Stepped.{heard, unheard}
+use Rattle.oam.specs.Machine.{receivedBy, receivedOutput}
+use Rattle.oam.proofs.Stepped.{heard, stayed-unheard, unheard}
 use borrow.Author.Needs.{needs}
 use Rattle.oam.proofs.machine.oam_receive.Statement.{statement}
 use Rattle.oam.proofs.machine.oam_receive.Tie as tie
@@ -22,14 +22,19 @@ cast-result c = search needs
 enum-known-e : tie.Need-enum-known-e
 enum-known-e c = search needs
 
+refuse-requires : tie.Need-refuse-requires
+refuse-requires c κs = search needs
+
 same-length : tie.Need-same-length
 same-length c = search needs
 
 returns : tie.Need-returns
+unfolding receivedBy receivedOutput
 returns c =
-    let a = c .before .before .before .before .before .before .before .before .before .before .args in
-    let found = sym (c .before .before .before .before .unpack .ensures) ∙ c .before .before .e .given .1 in
-    unheard (roomyEnd (length (now (a .header))) (unpacked (now (a .state)))) (now (a .state)) (now (a .out)) (rw (found, lt-ltb _ _ (c .if1 .taken)))
+    let a = c .before .before .before .before .before .before .before .before .before .before .before .args in
+    let found = sym (c .before .before .before .before .before .unpack .ensures) ∙ c .before .before .before .e .given .1 in
+    let short = lt-ltb (length (now (a .header))) 4 (c .before .if1 .taken) in
+    stayed-unheard (unpacked (now (a .state))) (now (a .state)) (now (a .out)) found (rw short) refl (rw short) (c .refuse .ensures)
 
 receive-requires : tie.Need-receive-requires
 receive-requires c κs = search needs
@@ -46,8 +51,7 @@ same-length-2 c = search needs
 returns-2 : tie.Need-returns-2
 returns-2 c =
     let a = c .before .before .before .before .before .before .before .before .before .args in
-    let found = sym (c .before .before .before .unpack .ensures) ∙ c .before .answer .given .1 in
-    unheard (roomyEnd (length (now (a .header))) (unpacked (now (a .state)))) (now (a .state)) (now (a .out)) (rw found)
+    unheard (unpacked (now (a .state))) (now (a .state)) (now (a .out)) (sym (c .before .before .before .unpack .ensures) ∙ c .before .answer .given .1)
 
 same-length-3 : tie.Need-same-length-3
 same-length-3 c = search needs
@@ -59,11 +63,14 @@ same-length-5 : tie.Need-same-length-5
 same-length-5 c = search needs
 
 returns-3 : tie.Need-returns-3
+unfolding receivedBy receivedOutput
 returns-3 c =
     let a = c .before .before .before .before .before .before .before .before .before .before .before .before .before .before .before .before .before .before .before .before .before .before .args in
     let found = sym (c .before .before .before .before .before .before .before .before .before .before .before .before .before .before .before .before .unpack .ensures) ∙ c .before .before .before .before .before .before .before .before .before .before .before .before .before .before .e .given .1 in
-    heard (roomyEnd (length (now (a .header))) (unpacked (now (a .state)))) (now (a .state)) (now (a .out)) (rw (found, le-ltb _ _ (c .before .before .before .before .before .before .before .before .before .before .before .before .if1 .left)))
-    (c .before .before .before .before .before .before .before .before .before .before .receive .ensures) (c .before .before .before .before .before .before .show-heard .ensures) (c .before .before .conclude .ensures)
+    let long = le-ltb (length (now (a .header))) 4 (c .before .before .before .before .before .before .before .before .before .before .before .before .if1 .left) in
+    let steps = c .before .before .before .before .before .before .before .before .before .before .receive .ensures in
+    heard (unpacked (now (a .state))) (now (a .state)) (now (a .out)) found (rw long (steps .0), rw long (steps .1))
+    (c .before .before .before .before .before .before .show-heard .ensures) (c .before .before .conclude .ensures)
 
 pub oam-receive-spec : {M : Type 1} → statement M
 oam-receive-spec =
@@ -73,6 +80,7 @@ oam-receive-spec =
     enum-known-answer
     cast-result
     enum-known-e
+    refuse-requires
     same-length
     returns
     receive-requires
