@@ -13,7 +13,8 @@ use Rattle.peer.specs.declared.Settings.{Settings}
 use Rattle.loopback.specs.declared.Role.the-variants.{Looping}
 use Rattle.end.specs.State.{freshEnd}
 use Rattle.reach.specs.Machine.{tick, report, receive, request, Call, outcomeOf}
-use Rattle.reach.proofs.Standing.{Accepted, fresh-is}
+use Rattle.reach.specs.Premises.{Accepted}
+use Rattle.reach.proofs.Standing.{fresh-is}
 use Rattle.pair.specs.Lists.{Some, here, there, none-left, also}
 use Rattle.pair.specs.System.{Side, near, far, other, same, Moment, momentOf, World, put, called, Act, ticks, reports, requests, arrives, Happening, frameAt, delivered, happens, run, begin}
 use Rattle.pair.specs.Safe.{Loops, Safe, frameCount, inSecond}

@@ -21,12 +21,13 @@ use Rattle.end.specs.Granting.{granted}
 use Rattle.end.specs.Ranges.{ranged}
 use Rattle.reach.specs.Machine.{Input, tick, report, receive, request, Call, outcomeOf, meant}
 use Rattle.reach.specs.Runs.{after, count, wrote, isTick, acceptedTick, ticksIn, framesIn}
+use Rattle.reach.specs.Premises.{Accepted, OfOctets, AllOfOctets}
 use Rattle.reach.proofs.Bools.{whether}
 use Rattle.reach.proofs.Coming.{noted, Concludes, Comes, refuses, concludes, grants, comes}
-use Rattle.reach.proofs.Standing.{Accepted, Bounded, Ranged, ranged-is}
-use Rattle.reach.proofs.Keeping.{OfOctets, InputFits, octets-fit, turned-bounded}
+use Rattle.reach.proofs.Standing.{Bounded, Ranged, ranged-is}
+use Rattle.reach.proofs.Keeping.{InputFits, octets-fit, turned-bounded}
 use Rattle.reach.proofs.Staying.{Lasting, meterBy, made-stays, asked-stays}
-use Rattle.reach.proofs.Ranging.{AllOfOctets, run-is}
+use Rattle.reach.proofs.Ranging.{run-is}
 use Rattle.reach.proofs.Framing.{Silent, Writes, sent-outcome, kept-outcome, sends-writes, sends-none, grants-writes}
 
 -- the meter that a call finds: an accepted tick turns it

@@ -25,10 +25,11 @@ use Rattle.end.specs.Granting.{granted}
 use Rattle.link.specs.Requests.{requestToSend}
 use Rattle.end.specs.Ranges.{ranged}
 use Rattle.reach.specs.Machine.{Request, Input, Call, askedOf, outcomeOf, outputOf, bodyBy, meant}
+use Rattle.reach.specs.Premises.{OfOctets}
 use Rattle.reach.proofs.Bools.{whether}
 use Rattle.reach.proofs.Coming.{Made, ticks, reports, hears, noted, Concludes, Grants, Comes, refuses, concludes, grants, comes}
 use Rattle.reach.proofs.Standing.{Stands, Ranged, ranged-is}
-use Rattle.reach.proofs.Keeping.{OfOctets, InputFits, octets-fit}
+use Rattle.reach.proofs.Keeping.{InputFits, octets-fit}
 use Rattle.reach.proofs.Staying.{Lasting, made-stays, asked-stays}
 use Rattle.reach.proofs.Passing.{Passes, passes-grant}
 use Rattle.reach.proofs.Ranging.{noted-ranged, asked-ranged}

@@ -36,8 +36,9 @@ use Rattle.end.specs.State.{discoveryOf}
 use Rattle.end.specs.Sending.{flagsToSend, tlvsToSend}
 use Rattle.link.specs.Outcomes.{informationToSend}
 use Rattle.end.specs.Ranges.{heldFits}
+use Rattle.reach.specs.Premises.{Accepted}
 use Rattle.reach.proofs.Bools.{whether}
-use Rattle.reach.proofs.Standing.{Accepted, Stands}
+use Rattle.reach.proofs.Standing.{Stands}
 
 -- ---- flags
 
