@@ -81,7 +81,7 @@ sent-tlvs : (e : End) → tlvsToSend (sent e) ≡ tlvsToSend e
 unfolding tlvsToSend sent
 sent-tlvs e = refl
 
-made-body : (e after : End) (i : Input) (t : Taken) → Made e i t → bodyBy i e after ≡ information (partsOf (tlvsToSend after))
+pub made-body : (e after : End) (i : Input) (t : Taken) → Made e i t → bodyBy i e after ≡ information (partsOf (tlvsToSend after))
 made-body e after i t ticks = refl
 made-body e after i t (reports r) = refl
 made-body e after i t (hears f m d) = refl
