@@ -1,33 +1,39 @@
--- Discovery's moves, as the paper lists them.
+-- Discovery's moves, as the paper lists them. Where two of them apply at once, either may be taken.
 use Prim.Native.Nat.{ℕ, zero, suc}
-use mathlib.Core.Bool.{Bool, true, false, cond}
+use mathlib.Core.Path.{_≡_}
+use mathlib.Core.Bool.{Bool, true, false}
 use Rattle.discovery.specs.declared.Discovery.{Discovery}
 use Rattle.discovery.specs.declared.Discovery.the-variants.{Fault, ActiveSendLocal, PassiveWait, SendLocalRemote, SendLocalRemoteOk, SendAny}
 
--- a move to another state, or none
-pub data Move : Type 0 where
-  rest : Move
-  to : Discovery → Move
-
-module _ (up active held satisfied complete : Bool) where
-  unfoldable pub move : Discovery → Move
+-- one move, by whether the link is up, the end active, a peer record held, the end satisfied, and the kept field 2
+pub data Move (up active held satisfied complete : Bool) : Discovery → Discovery → Type 0 where
   -- "With the link up it goes at once to ACTIVE_SEND_LOCAL (active) or PASSIVE_WAIT."
-  move Fault = cond up (cond active (to ActiveSendLocal) (to PassiveWait)) rest
+  sends-first : up ≡ true → active ≡ true → Move up active held satisfied complete Fault ActiveSendLocal
+  waits-first : up ≡ true → active ≡ false → Move up active held satisfied complete Fault PassiveWait
   -- "Either goes to SEND_LOCAL_REMOTE once a Local TLV is held."
-  move ActiveSendLocal = cond held (to SendLocalRemote) rest
-  move PassiveWait = cond held (to SendLocalRemote) rest
+  sender-hears : held ≡ true → Move up active held satisfied complete ActiveSendLocal SendLocalRemote
+  waiter-hears : held ≡ true → Move up active held satisfied complete PassiveWait SendLocalRemote
   -- "SEND_LOCAL_REMOTE goes to SEND_LOCAL_REMOTE_OK when satisfied; that goes to SEND_ANY when the kept peer field is 2."
-  move SendLocalRemote = cond satisfied (to SendLocalRemoteOk) rest
+  is-satisfied : satisfied ≡ true → Move up active held satisfied complete SendLocalRemote SendLocalRemoteOk
+  is-complete : complete ≡ true → Move up active held satisfied complete SendLocalRemoteOk SendAny
   -- "SEND_LOCAL_REMOTE_OK or SEND_ANY, not satisfied: SEND_LOCAL_REMOTE."
-  move SendLocalRemoteOk = cond satisfied (cond complete (to SendAny) rest) (to SendLocalRemote)
+  ok-unsatisfied : satisfied ≡ false → Move up active held satisfied complete SendLocalRemoteOk SendLocalRemote
+  any-unsatisfied : satisfied ≡ false → Move up active held satisfied complete SendAny SendLocalRemote
   -- "SEND_ANY, satisfied, kept field not 2: SEND_LOCAL_REMOTE_OK."
-  move SendAny = cond satisfied (cond complete rest (to SendLocalRemoteOk)) (to SendLocalRemote)
+  any-incomplete : satisfied ≡ true → complete ≡ false → Move up active held satisfied complete SendAny SendLocalRemoteOk
 
-  -- "Moves run until none applies": at most so many of them
-  unfoldable pub moves : ℕ → Discovery → Discovery
-  moves zero d = d
-  moves (suc n) d = onward (move d) d (moves n)
-    where
-      onward : Move → Discovery → (Discovery → Discovery) → Discovery
-      onward rest d go = d
-      onward (to next) d go = go next
+-- so many moves one after another
+pub data Moves (up active held satisfied complete : Bool) : ℕ → Discovery → Discovery → Type 0 where
+  none : {d : Discovery} → Moves up active held satisfied complete zero d d
+  then : {n : ℕ} {d next to : Discovery} → Move up active held satisfied complete d next → Moves up active held satisfied complete n next to
+      → Moves up active held satisfied complete (suc n) d to
+
+-- none applies
+abbrev pub Rests : (up active held satisfied complete : Bool) → Discovery → Type 0
+Rests up active held satisfied complete d = (next : Discovery) → Move up active held satisfied complete d next → ⊥
+
+-- "Moves run until none applies."
+pub record Settles (up active held satisfied complete : Bool) (from to : Discovery) : Type 0 where
+  pub count : ℕ
+  pub moves : Moves up active held satisfied complete count from to
+  pub rests : Rests up active held satisfied complete to

@@ -7,7 +7,7 @@ use Rattle.end.specs.declared.FreshEnd.the-variants.{Is}
 use Rattle.packing.specs.Octets.{packedIn, unpacked}
 use Rattle.packing.proofs.Packing.{unpacked-ranged, stored-unpacked}
 use Rattle.reach.specs.Machine.{Call, outcomeOf}
-use Rattle.reach.proofs.Keeping.{OfOctets}
+use Rattle.reach.specs.Premises.{OfOctets}
 use Rattle.reach.proofs.Ranging.{call-ranged}
 
 pub stored-again : (state : List ℕ) (e : End) (c : Call) → OfOctets (c .input) → unpacked state ≡ Is e

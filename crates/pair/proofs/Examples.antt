@@ -1,11 +1,10 @@
 -- The paper's proved examples, under a single statement.
 use mathlib.Core.Path.{_≡_, refl}
-use mathlib.Core.Bool.{true}
 use Rattle.body.specs.Variables.{descriptorStep, containerStep}
 use Rattle.end.specs.Ranges.{blank}
 use Rattle.reach.proofs.Witness.{machine}
-use Rattle.pair.specs.Examples.{rows, allRight}
+use Rattle.pair.specs.Examples.{rows, foundIn, expectedIn}
 
-pub examples-hold : allRight rows ≡ true
+pub examples-hold : foundIn rows ≡ expectedIn rows
 unfolding machine descriptorStep containerStep blank
 examples-hold = refl

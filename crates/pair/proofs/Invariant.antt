@@ -13,7 +13,7 @@ use Rattle.reach.proofs.Standing.{Ranged}
 use Rattle.reach.proofs.Counting.{Agrees}
 use Rattle.pair.specs.Lists.{Some, there, All, also}
 use Rattle.pair.specs.System.{Side, near, far, other, same, Moment, World, put}
-use Rattle.pair.specs.Safe.{Enable, Complete, Stays, Enabled, quiet, ticksOf, inSecond}
+use Rattle.pair.specs.Safe.{Enable, Complete, Stays, Enabled, quiet, historyOf}
 use Rattle.pair.proofs.Lists.{all-map}
 use Rattle.pair.proofs.Peers.{Lost}
 
@@ -28,7 +28,7 @@ pub record Honest (past : List Moment) (m : Moment) : Type 0 where
 -- record is held the lost-link count is that of the past, and it loops only where the past has the enable
 pub record Keeps (s : Side) (past : List Moment) (e : End) : Type 0 where
   pub ranged : Ranged e
-  pub agrees : Agrees (e .meter) (ticksOf s past) (inSecond s past)
+  pub agrees : Agrees (e .meter) (historyOf s past)
   pub complete : e .peer .kept ≡ 2 → Some (Complete (other s)) past
   pub lost : Lost (quiet s past) e
   pub enabled : e .role ≡ Looping → Enabled s past

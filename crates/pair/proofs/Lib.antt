@@ -1,11 +1,9 @@
 pub mod Lists
-pub mod Effects
 pub mod Peers
 pub mod Looping
 pub mod Frames
 pub mod Invariant
 pub mod Limit
-pub mod InSendAny
 pub mod Steps
 pub mod Safety
 pub mod Witness

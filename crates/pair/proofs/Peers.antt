@@ -25,7 +25,7 @@ use Rattle.reach.proofs.Coming.{heardIn}
 use Rattle.reach.proofs.Keeping.{by-taken}
 use Rattle.reach.proofs.Standing.{Stands}
 use Rattle.pair.specs.Safe.{quietAfter}
-use Rattle.pair.proofs.Effects.{Becomes, ticks, reports, hears, asks, Hears}
+use Rattle.reach.proofs.Effects.{Becomes, ticks, reports, hears, asks, Hears}
 
 -- ---- the kept field
 

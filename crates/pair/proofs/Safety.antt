@@ -13,12 +13,13 @@ use Rattle.peer.specs.declared.Settings.{Settings}
 use Rattle.loopback.specs.declared.Role.the-variants.{Looping}
 use Rattle.end.specs.State.{freshEnd}
 use Rattle.reach.specs.Machine.{tick, report, receive, request, Call, outcomeOf}
-use Rattle.reach.proofs.Standing.{Accepted, fresh-is}
+use Rattle.reach.specs.Premises.{Accepted}
+use Rattle.reach.proofs.Standing.{fresh-is}
 use Rattle.pair.specs.Lists.{Some, here, there, none-left, also}
 use Rattle.pair.specs.System.{Side, near, far, other, same, Moment, momentOf, World, put, called, Act, ticks, reports, requests, arrives, Happening, frameAt, delivered, happens, run, begin}
-use Rattle.pair.specs.Safe.{Loops, Safe, frameCount, inSecond}
-use Rattle.pair.proofs.Looping.{not-looping}
-use Rattle.pair.proofs.InSendAny.{looping-any, any-takes}
+use Rattle.pair.specs.Safe.{Loops, Safe, someOctets, inSecond}
+use Rattle.reach.proofs.Beginning.{not-looping}
+use Rattle.reach.proofs.InSendAny.{looping-any, any-takes}
 use Rattle.pair.proofs.Invariant.{Keeps, Invariant, apart, both, put-here, put-there, honest-grows, keeps-beside}
 use Rattle.pair.proofs.Steps.{Wrote, Delivered, keeps-after, honest-after}
 
@@ -50,7 +51,7 @@ same-side far far h = refl
 
 -- no frame is no octets
 nothing : {A : Type 0} {x : ℕ} {f : List ℕ} → _≡_ {A = List ℕ} [] (x ∷ f) → A
-nothing h = absurd (omega (arith, ap frameCount h))
+nothing h = never (ap someOctets h)
 
 -- a frame that arrives was written by its side
 arrives-written : (s : Side) (n : ℕ) (past : List Moment) (x : ℕ) (f : List ℕ) → frameAt s n past ≡ x ∷ f → Some (Wrote s (x ∷ f)) past

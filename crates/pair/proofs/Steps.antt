@@ -4,25 +4,28 @@ use Prim.Native.Nat.{ℕ}
 use mathlib.Core.Path.{_≡_, refl, sym, ap, _∙_, subst}
 use mathlib.Core.List.{List, [], _∷_}
 use mathlib.Core.Logic.{⊎-elim}
-use Rattle.frame.specs.Frame.{Message, decode}
+use Rattle.frame.specs.Frame.{decode}
 use Rattle.peer.specs.Peers.{held}
 use Rattle.discovery.specs.declared.Discovery.the-variants.{SendAny}
+use Rattle.loopback.specs.Loopback.{isLooping}
 use Rattle.loopback.specs.declared.Role.the-variants.{Looping}
 use Rattle.end.specs.declared.End.{End}
 use Rattle.end.specs.State.{discoveryOf}
 use Rattle.reach.specs.Machine.{Input, tick, report, receive, request, Call, outcomeOf}
+use Rattle.reach.specs.Ordering.{Ordered}
+use Rattle.reach.proofs.Bools.{whether}
 use Rattle.reach.proofs.Keeping.{InputFits}
 use Rattle.reach.proofs.Standing.{Ranged}
 use Rattle.reach.proofs.Ranging.{keeps-ranged}
 use Rattle.reach.proofs.Framing.{ranged-writes}
+use Rattle.reach.proofs.Beginning.{is-looping, begins-looping}
 use Rattle.pair.specs.Lists.{Some, there, All, none-left}
 use Rattle.pair.specs.System.{Side, other, Moment, momentOf}
 use Rattle.pair.specs.Safe.{Enable, Complete, Enabled, quiet}
 use Rattle.pair.proofs.Lists.{some-map, meet, some-out}
-use Rattle.pair.proofs.Effects.{Face, same-discovery, Hears, Effect, effect-of}
+use Rattle.reach.proofs.Effects.{Face, same-discovery, Effect, effect-of}
 use Rattle.pair.proofs.Peers.{becomes-two, Lost, becomes-lost}
-use Rattle.pair.proofs.Looping.{SaysEnable, becomes-looping}
-use Rattle.pair.proofs.InSendAny.{is-any, looping-any, any-takes}
+use Rattle.reach.proofs.InSendAny.{is-any, looping-any, any-takes}
 use Rattle.pair.proofs.Frames.{wrote-fits, wrote-enable}
 use Rattle.pair.proofs.Limit.{agrees-after}
 use Rattle.pair.proofs.Invariant.{Honest, Keeps, same-self, other-other, both, stay-goes-on}
@@ -63,26 +66,26 @@ module _ (s : Side) (c : Call) (past : List Moment) (e : End) (k : Keeps s past 
   ranged-after = keeps-ranged c e fits (k .ranged)
 
   -- what was heard was written by the other side
-  heard-written : {Says : Message → Type 0} (h : Hears (c .input) Says) → Some (Wrote (other s) (h .frame)) past
-  heard-written h = subst (Delivered s past) (h .received) d
+  heard-written : (f : List ℕ) → c .input ≡ receive f → Some (Wrote (other s) f) past
+  heard-written f h = subst (Delivered s past) h d
 
   -- the kept field
   complete-after : after .peer .kept ≡ 2 → Some (Complete (other s)) past
   complete-after two =
       let two′ = ap (λ (f : Face). f .footing .peer .kept) (sym (effect .face)) ∙ two in
       ⊎-elim (k .complete)
-      (λ h. some-map (λ m w. record { side = w .side; message = h .message; reads = ap decode (w .wrote) ∙ h .reads; complete = h .says }) (heard-written h))
+      (λ h. some-map (λ m w. record { side = w .side; message = h .message; reads = ap decode (w .wrote) ∙ h .reads; complete = h .says }) (heard-written (h .frame) (h .received)))
       (becomes-two e (c .input) (effect .next) (effect .how) two′)
 
   any-complete : discoveryOf after ≡ SendAny → Some (Complete (other s)) past
   any-complete any = complete-after (any-takes after any .1)
 
   -- an enable that was heard, and the moments that may have sent it
-  newly : discoveryOf after ≡ SendAny → Hears (c .input) SaysEnable → Enabled s (moment ∷ past)
-  newly any h =
+  newly : Ordered c e → Enabled s (moment ∷ past)
+  newly h =
       let enable : (m : Moment) → Wrote (other s) (h .frame) m → Enable (m .wrote) =
-      λ m w. record { message = h .message; reads = ap decode (w .wrote) ∙ h .reads; enables = h .says } in
-      let senders = meet a (heard-written h) in
+      λ m w. record { message = h .message; reads = ap decode (w .wrote) ∙ h .reads; enables = h .enables } in
+      let senders = meet a (heard-written (h .frame) (h .received)) in
       record {
         newer = [];
         moment = moment;
@@ -90,10 +93,10 @@ module _ (s : Side) (c : Call) (past : List Moment) (e : End) (k : Keeps s past 
         split = refl;
         stays = none-left;
         side = refl;
-        stands = any;
+        stands = h .any;
         frame = h .frame;
         received = h .received;
-        enable = record { message = h .message; reads = h .reads; enables = h .says };
+        enable = record { message = h .message; reads = h .reads; enables = h .enables };
         sent = some-map
             (λ m x. let n = x .0 .enable (enable m (x .1)) in record { side = x .1 .side; wrote = x .1 .wrote; active = n .0; any = n .1 }) senders;
         complete = both (λ (t : Side). Some (Complete t) past) s
@@ -102,14 +105,15 @@ module _ (s : Side) (c : Call) (past : List Moment) (e : End) (k : Keeps s past 
             subst (λ (t : Side). Some (Complete t) past) (ap other (x .1 .side) ∙ other-other s)
             (x .0 .complete (x .0 .enable (enable m (x .1)) .1)))
             senders)
-            (any-complete any);
+            (any-complete (h .any));
       }
 
   enabled-after : after .role ≡ Looping → Enabled s (moment ∷ past)
   enabled-after l =
       let any = looping-any after ranged-after l in
-      ⊎-elim (λ r. stay-goes-on s moment past (λ _. any) (k .enabled r)) (newly any)
-      (becomes-looping e (c .input) (effect .next) (effect .how) (ap (λ (f : Face). f .role) (sym (effect .face)) ∙ l))
+      whether (isLooping (e .role))
+      (λ t. stay-goes-on s moment past (λ _. any) (k .enabled (is-looping (e .role) t)))
+      (λ f. newly (begins-looping c e f l))
 
   lost-after : Lost (quiet s (moment ∷ past)) after
   lost-after =
@@ -134,7 +138,7 @@ module _ (s : Side) (c : Call) (past : List Moment) (e : End) (k : Keeps s past 
       record {
         complete = λ any. there (any-complete any);
         enable = λ n.
-            let p = wrote-enable s c e w effect n in
+            let p = wrote-enable c e w effect n in
             (p .0, same-discovery after (effect .next) (effect .face) ∙ is-any (effect .next) (p .1));
-        fits = wrote-fits s c e w;
+        fits = wrote-fits c e w;
       }

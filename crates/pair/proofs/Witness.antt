@@ -10,7 +10,7 @@ use Rattle.loopback.specs.declared.Role.{Role}
 use Rattle.loopback.specs.declared.Role.the-variants.{Idle, Asking, Looping}
 use Rattle.end.specs.declared.Report.the-variants.{LinkUp}
 use Rattle.reach.specs.Machine.{start, stop}
-use Rattle.reach.proofs.Standing.{Accepted}
+use Rattle.reach.specs.Premises.{Accepted}
 use Rattle.reach.proofs.Witness.{machine}
 use Rattle.pair.specs.System.{Side, near, far, Act, reports, requests, arrives, Happening, run, begin}
 use Rattle.pair.specs.Safe.{Loops, inSecond}

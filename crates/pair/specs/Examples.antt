@@ -3,23 +3,29 @@
 -- 49 stays, 50 enters FAULT; eleventh frame (13)". Every number is computed from the definitions that the contracts cite.
 use Prim.Native.Nat.{ℕ, _-_}
 use mathlib.Core.List.{List, [], _∷_, _++_}
-use mathlib.Core.Bool.{Bool, true, false, _&&_}
-use lib.Dec.{eqb}
+use mathlib.Core.Bool.{true, false}
 use lib.ListN.{length, replicate}
 use Rattle.tlvs.specs.Octets.{bitOf}
 use Rattle.frame.specs.Frame.{decode, readingOf}
 use Rattle.body.specs.Variables.{containerStep}
 use Rattle.body.specs.declared.ContainerStep.{ContainerStep}
-use Rattle.body.specs.declared.ContainerStep.the-variants.{End as NoMore, Broken, Value, Indication}
+use Rattle.body.specs.declared.ContainerStep.the-variants.{Value, Indication}
 use Rattle.body.specs.declared.Held.the-variants.{Is}
+use Rattle.frame.specs.declared.Header.{Header}
 use Rattle.frame.specs.declared.Reading.{Reading}
-use Rattle.frame.specs.declared.Reading.the-variants.{Refused, Information as InformationIs, Notification, Request, Response, Loopback, Organization}
+use Rattle.frame.specs.declared.Reading.the-variants.{Refused, Loopback}
 use Rattle.loopback.specs.declared.Role.the-variants.{Idle}
 use Rattle.end.specs.declared.End.{End}
 use Rattle.end.specs.declared.Last.the-variants.{Never}
 use Rattle.link.specs.declared.Outcome.{Outcome}
 use Rattle.end.specs.Ranges.{blank}
 use Rattle.reach.specs.Machine.{Input, tick, request, start, outcomeOf}
+
+-- what an example shows: a frame's reading, what stands at an octet of a list of containers, or a number
+pub data Seen : Type 0 where
+  reading : Reading → Seen
+  container : ContainerStep → Seen
+  number : ℕ → Seen
 
 -- ---- frames that are read
 
@@ -29,18 +35,13 @@ frame code body octets =
     let f : List ℕ = 0x01 ∷ 0x80 ∷ 0xc2 ∷ 0 ∷ 0 ∷ 0x02 ∷ 0x02 ∷ 0 ∷ 0 ∷ 0 ∷ 0 ∷ 0x01 ∷ 0x88 ∷ 0x09 ∷ 3 ∷ 0 ∷ 0x50 ∷ code ∷ body in
     f ++ replicate (octets - length f) 0
 
--- the number of a refusal, 0 for a frame that is accepted
-abbrev refusal : Reading → ℕ
-refusal (Refused n) = n
-refusal (InformationIs h found) = 0
-refusal (Notification h n) = 0
-refusal (Request h) = 0
-refusal (Response h) = 0
-refusal (Loopback h command) = 0
-refusal (Organization h oui) = 0
+-- what is read of it
+abbrev reads : List ℕ → Seen
+reads f = reading (readingOf (decode f))
 
-abbrev reads : List ℕ → ℕ
-reads f = refusal (readingOf (decode f))
+-- the header of such a frame
+abbrev header : ℕ → Header
+header code = record { source = 0x020000000001; flags = 0x50; code = code }
 
 -- a TLV of type 01 with so many octets
 abbrev local : ℕ → List ℕ
@@ -48,15 +49,9 @@ local octets = 1 ∷ octets ∷ replicate (octets - 2) 0
 
 -- ---- a container with a width octet
 
--- the octets of its value, 0 for none
-abbrev octetsIn : ContainerStep → ℕ
-octetsIn NoMore = 0
-octetsIn Broken = 0
-octetsIn (Value descriptor width next) = width
-octetsIn (Indication descriptor octet next) = 0
-
-abbrev width : ℕ → ℕ
-width octet = octetsIn (containerStep (7 ∷ 0 ∷ 2 ∷ octet ∷ replicate 128 0) 0)
+-- what stands at the beginning of a body with it, after a descriptor (branch 7, leaf 2) and before 128 octets
+abbrev width : ℕ → Seen
+width octet = container (containerStep (7 ∷ 0 ∷ 2 ∷ octet ∷ replicate 128 0) 0)
 
 -- ---- an end in SEND_ANY that takes one input more
 
@@ -79,52 +74,58 @@ abbrev takes : Input → End → Outcome
 takes i e = outcomeOf (record { input = i; out = replicate 60 0 }) e
 
 -- a loopback start changes the State octet
-abbrev revisionAfter : ℕ → ℕ
-revisionAfter revision = takes (request start) (standing 0 0 revision) .end .own .revision
+abbrev revisionAfter : ℕ → Seen
+revisionAfter revision = number (takes (request start) (standing 0 0 revision) .end .own .revision)
 
 -- whether a tick that brings the lost-link count to a number enters FAULT, which clears all that is kept of the peer
-abbrev faultsAt : ℕ → ℕ
-faultsAt lost = bitOf (blank (takes tick (standing (lost - 1) 0 0) .end .peer))
+abbrev faultsAt : ℕ → Seen
+faultsAt lost = number (bitOf (blank (takes tick (standing (lost - 1) 0 0) .end .peer)))
 
-abbrev countAfter : ℕ → ℕ
-countAfter lost = takes tick (standing (lost - 1) 0 0) .end .link .lost
+abbrev countAfter : ℕ → Seen
+countAfter lost = number (takes tick (standing (lost - 1) 0 0) .end .link .lost)
 
 -- the answer to a request for the n-th frame of a second
-abbrev answerToFrame : ℕ → ℕ
-answerToFrame n = takes (request start) (standing 0 (n - 1) 0) .answer
+abbrev answerToFrame : ℕ → Seen
+answerToFrame n = number (takes (request start) (standing 0 (n - 1) 0) .answer)
 
 -- ---- the table
 
 pub record Row : Type 0 where
-  pub found : ℕ
-  pub expected : ℕ
+  pub found : Seen
+  pub expected : Seen
 
 infix 70 _is_
-abbrev _is_ : ℕ → ℕ → Row
+abbrev _is_ : Seen → Seen → Row
 found is expected = record { found = found; expected = expected }
 
 abbrev pub rows : List Row
 rows =
-    reads (frame 4 (1 ∷ []) 59) is 1
-    ∷ reads (frame 4 (1 ∷ []) 60) is 0
-    ∷ reads (frame 4 (1 ∷ []) 1514) is 0
-    ∷ reads (frame 4 (1 ∷ []) 1515) is 1
-    ∷ reads (frame 5 [] 60) is 5
-    ∷ reads (frame 0 (local 15) 60) is 6
-    ∷ reads (frame 0 (local 16 ++ local 16) 60) is 7
-    ∷ reads (frame 4 (0 ∷ []) 60) is 8
-    ∷ width 0x00 is 128
-    ∷ width 0x7f is 127
-    ∷ width 0x80 is 0
-    ∷ revisionAfter 65535 is 0
-    ∷ faultsAt 49 is 0
-    ∷ countAfter 49 is 49
-    ∷ faultsAt 50 is 1
-    ∷ countAfter 50 is 0
-    ∷ answerToFrame 10 is 0
-    ∷ answerToFrame 11 is 13
+    reads (frame 4 (1 ∷ []) 59) is reading (Refused 1)
+    ∷ reads (frame 4 (1 ∷ []) 60) is reading (Loopback (header 4) 1)
+    ∷ reads (frame 4 (1 ∷ []) 1514) is reading (Loopback (header 4) 1)
+    ∷ reads (frame 4 (1 ∷ []) 1515) is reading (Refused 1)
+    ∷ reads (frame 5 [] 60) is reading (Refused 5)
+    ∷ reads (frame 0 (local 15) 60) is reading (Refused 6)
+    ∷ reads (frame 0 (local 16 ++ local 16) 60) is reading (Refused 7)
+    ∷ reads (frame 4 (0 ∷ []) 60) is reading (Refused 8)
+    -- the descriptor, the octets of its value, and where the next container stands; or no value, and the width octet
+    ∷ width 0x00 is container (Value 0x070002 128 132)
+    ∷ width 0x7f is container (Value 0x070002 127 131)
+    ∷ width 0x80 is container (Indication 0x070002 0x80 4)
+    ∷ revisionAfter 65535 is number 0
+    ∷ faultsAt 49 is number 0
+    ∷ countAfter 49 is number 49
+    ∷ faultsAt 50 is number 1
+    ∷ countAfter 50 is number 0
+    ∷ answerToFrame 10 is number 0
+    ∷ answerToFrame 11 is number 13
     ∷ []
 
-abbrev pub allRight : List Row → Bool
-allRight [] = true
-allRight (r ∷ rs) = eqb (r .found) (r .expected) && allRight rs
+-- the two columns
+abbrev pub foundIn : List Row → List Seen
+foundIn [] = []
+foundIn (r ∷ rs) = r .found ∷ foundIn rs
+
+abbrev pub expectedIn : List Row → List Seen
+expectedIn [] = []
+expectedIn (r ∷ rs) = r .expected ∷ expectedIn rs

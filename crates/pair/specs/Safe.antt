@@ -1,15 +1,16 @@
 -- The demand on two ends, sentence by sentence.
-use Prim.Native.Nat.{ℕ, _+_, _%_, _<_, _≤_}
+use Prim.Native.Nat.{ℕ, _+_, _<_, _≤_}
 use mathlib.Core.Path.{_≡_}
 use mathlib.Core.List.{List, [], _∷_, _++_}
-use mathlib.Core.Bool.{Bool, true, cond, _&&_}
-use lib.Dec.{eqb}
+use mathlib.Core.Bool.{Bool, true, false, cond}
 use Rattle.frame.specs.Flags.{flagsOf}
 use Rattle.frame.specs.Frame.{Message, loopback, accepted, decode}
 use Rattle.discovery.specs.declared.Discovery.the-variants.{SendAny}
 use Rattle.loopback.specs.declared.Role.the-variants.{Looping}
 use Rattle.end.specs.State.{discoveryOf}
 use Rattle.reach.specs.Machine.{Input, tick, report, receive, request}
+use Rattle.reach.specs.Runs.{isTick}
+use Rattle.reach.specs.Seconds.{Entry, framesIn}
 use Rattle.pair.specs.Lists.{Some, All}
 use Rattle.pair.specs.System.{Side, other, same, Moment, World}
 
@@ -69,30 +70,20 @@ abbrev pub quiet : Side → List Moment → ℕ
 quiet s [] = 0
 quiet s (m ∷ past) = cond (same s (m .side)) (quietAfter (m .input) (quiet s past)) (quiet s past)
 
--- the side's accepted ticks
-abbrev pub tickCount : Input → ℕ
-tickCount tick = 1
-tickCount (report r) = 0
-tickCount (receive f) = 0
-tickCount (request q) = 0
+-- a frame was written where there are octets of one
+abbrev pub someOctets : List ℕ → Bool
+someOctets [] = false
+someOctets (x ∷ f) = true
 
-abbrev pub ticksOf : Side → List Moment → ℕ
-ticksOf s [] = 0
-ticksOf s (m ∷ past) = cond (same s (m .side)) (ticksOf s past + tickCount (m .input)) (ticksOf s past)
+-- the side's accepted calls: which of them were ticks, and which wrote a frame
+abbrev pub historyOf : Side → List Moment → List Entry
+historyOf s [] = []
+historyOf s (m ∷ past) =
+    cond (same s (m .side)) (record { tick = isTick (m .input); frame = someOctets (m .wrote) } ∷ historyOf s past) (historyOf s past)
 
--- "every tenth tick from fresh (link down or up) closes a timer second"
-abbrev pub closes : Side → Input → List Moment → Bool
-closes s i past = eqb (tickCount i) 1 && eqb ((ticksOf s past + tickCount i) % 10) 0
-
-abbrev pub frameCount : List ℕ → ℕ
-frameCount [] = 0
-frameCount (x ∷ f) = 1
-
--- the frames that the side wrote "in one of its timer seconds", the present one; a closing tick's own frame "belongs to the new second"
+-- the frames that the side wrote "in one of its timer seconds", the present one
 abbrev pub inSecond : Side → List Moment → ℕ
-inSecond s [] = 0
-inSecond s (m ∷ past) =
-    cond (same s (m .side)) (cond (closes s (m .input) past) 0 (inSecond s past) + frameCount (m .wrote)) (inSecond s past)
+inSecond s past = framesIn (historyOf s past)
 
 -- ---- the demand
 

@@ -4,14 +4,13 @@ use Prim.Native.Nat.{ℕ, zero, suc}
 use mathlib.Core.List.{List, [], _∷_}
 use mathlib.Core.Bool.{Bool, true, false, cond}
 use lib.Dec.{eqb}
-use lib.ListN.{take}
 use Rattle.peer.specs.Bits.{bit}
 use Rattle.peer.specs.declared.Settings.{Settings}
 use Rattle.discovery.specs.declared.Discovery.{Discovery}
 use Rattle.end.specs.declared.End.{End}
 use Rattle.end.specs.declared.Report.{Report}
 use Rattle.end.specs.State.{freshEnd, discoveryOf}
-use Rattle.reach.specs.Machine.{Request, Input, tick, report, receive, request, Call, outcomeOf, outputOf}
+use Rattle.reach.specs.Machine.{Request, Input, tick, report, receive, request, Call, outcomeOf, frameOf}
 
 pub data Side : Type 0 where
   near : Side
@@ -49,7 +48,7 @@ momentOf s c e =
     record {
       side = s;
       input = c .input;
-      wrote = take (outcomeOf c e .length) (outputOf c e);
+      wrote = frameOf c e;
       active = bit 0 (e .settings .configuration);
       discovery = discoveryOf (outcomeOf c e .end);
     }

@@ -20,13 +20,15 @@ use Rattle.end.specs.Sending.{dues, sends, sent}
 use Rattle.end.specs.Granting.{granted}
 use Rattle.end.specs.Ranges.{ranged}
 use Rattle.reach.specs.Machine.{Input, tick, report, receive, request, Call, outcomeOf, meant}
-use Rattle.reach.specs.Runs.{after, count, wrote, isTick, acceptedTick, ticksIn, framesIn}
+use Rattle.reach.specs.Runs.{after, wrote, isTick, acceptedTick, entryOf, history}
+use Rattle.reach.specs.Seconds.{Entry, count, ticksIn, framesIn}
+use Rattle.reach.specs.Premises.{Accepted, OfOctets, AllOfOctets}
 use Rattle.reach.proofs.Bools.{whether}
 use Rattle.reach.proofs.Coming.{noted, Concludes, Comes, refuses, concludes, grants, comes}
-use Rattle.reach.proofs.Standing.{Accepted, Bounded, Ranged, ranged-is}
-use Rattle.reach.proofs.Keeping.{OfOctets, InputFits, octets-fit, turned-bounded}
+use Rattle.reach.proofs.Standing.{Bounded, Ranged, ranged-is}
+use Rattle.reach.proofs.Keeping.{InputFits, octets-fit, turned-bounded}
 use Rattle.reach.proofs.Staying.{Lasting, meterBy, made-stays, asked-stays}
-use Rattle.reach.proofs.Ranging.{AllOfOctets, run-is}
+use Rattle.reach.proofs.Ranging.{run-is}
 use Rattle.reach.proofs.Framing.{Silent, Writes, sent-outcome, kept-outcome, sends-writes, sends-none, grants-writes}
 
 -- the meter that a call finds: an accepted tick turns it
@@ -131,10 +133,10 @@ call-counts c e o r =
 
 -- ---- the history
 
--- the meter agrees with a history of some ticks and frames
-pub record Agrees (m : Meter) (t n : ℕ) : Type 0 where
-  pub ticks : m .ticks ≡ t % 10
-  pub written : m .written ≡ n
+-- the meter agrees with a history
+pub record Agrees (m : Meter) (xs : List Entry) : Type 0 where
+  pub ticks : m .ticks ≡ ticksIn xs % 10
+  pub written : m .written ≡ framesIn xs
 
 closing-is : (m : Meter) (t : ℕ) → m .ticks ≡ t % 10 → closing m ≡ eqb ((t + 1) % 10) 0
 unfolding closing
@@ -150,39 +152,39 @@ turned-ticks m t h =
     (λ y. omega (arith, leb-true 9 (m .ticks) y)) (λ n. omega (arith, leb-false 9 (m .ticks) n))
 
 -- a tick that may be counted
-may-turn : (m : Meter) (t n : ℕ) → Agrees m t n → (b : Bool)
-    → Agrees (cond b (turnedMeter m) m) (t + count b) (cond (b && eqb ((t + count b) % 10) 0) 0 n)
-may-turn m t n a true =
-    record {
-      ticks = turned-ticks m t (a .ticks);
-      written = turned-written m true ∙ rw (closing-is m t (a .ticks), a .written);
-    }
-may-turn m t n a false = record { ticks = omega (arith, a .ticks); written = a .written }
+module _ (m : Meter) (xs : List Entry) (a : Agrees m xs) where
+  may-turn-ticks : (b : Bool) → cond b (turnedMeter m) m .ticks ≡ (ticksIn xs + count b) % 10
+  may-turn-ticks true = turned-ticks m (ticksIn xs) (a .ticks)
+  may-turn-ticks false = omega (arith, a .ticks)
+
+  may-turn-written : (b : Bool) → cond b (turnedMeter m) m .written ≡ cond (b && eqb ((ticksIn xs + count b) % 10) 0) 0 (framesIn xs)
+  may-turn-written true = turned-written m true ∙ rw (closing-is m (ticksIn xs) (a .ticks), a .written)
+  may-turn-written false = a .written
 
 -- after a call
-pub keeps-agrees : (c : Call) (e : End) → InputFits (c .input) → Ranged e → (t n : ℕ) → Agrees (e .meter) t n
-    → Agrees (outcomeOf c e .end .meter) (t + count (acceptedTick c e))
-    (cond (acceptedTick c e && eqb ((t + count (acceptedTick c e)) % 10) 0) 0 n + count (wrote c e))
-keeps-agrees c e o r t n a =
-    let g = may-turn (e .meter) t n a (acceptedTick c e) in
+pub keeps-agrees : (c : Call) (e : End) → InputFits (c .input) → Ranged e → (xs : List Entry) → Agrees (e .meter) xs
+    → Agrees (outcomeOf c e .end .meter) (entryOf c e ∷ xs)
+keeps-agrees c e o r xs a =
     let few = may-turn-bounded (e .meter) (acceptedTick c e) (r .stands .meter) .written in
     let m = by-comes c e o r (comes c e) in
     record {
-      ticks = ap (λ (k : Meter). k .ticks) m ∙ charged-ticks (opened c e) (wrote c e) ∙ g .ticks;
-      written = ap (λ (k : Meter). k .written) m ∙ charged-written (opened c e) (wrote c e) few ∙ ap (λ (k : ℕ). k + count (wrote c e)) (g .written);
+      ticks = ap (λ (k : Meter). k .ticks) m ∙ charged-ticks (opened c e) (wrote c e) ∙ may-turn-ticks (e .meter) xs a (acceptedTick c e);
+      written = ap (λ (k : Meter). k .written) m
+          ∙ charged-written (opened c e) (wrote c e) few
+          ∙ ap (λ (k : ℕ). k + count (wrote c e)) (may-turn-written (e .meter) xs a (acceptedTick c e));
     }
 
 pub run-agrees : (s : Settings) → Accepted s → (cs : List Call) → AllOfOctets cs
-    → Agrees (after s cs .meter) (ticksIn s cs) (framesIn s cs)
+    → Agrees (after s cs .meter) (history s cs)
 unfolding freshEnd
 run-agrees s a [] o = record { ticks = refl; written = refl }
 run-agrees s a (c ∷ cs) o =
-    keeps-agrees c (after s cs) (octets-fit (c .input) (o .0)) (run-is s a cs (o .1)) (ticksIn s cs) (framesIn s cs) (run-agrees s a cs (o .1))
+    keeps-agrees c (after s cs) (octets-fit (c .input) (o .0)) (run-is s a cs (o .1)) (history s cs) (run-agrees s a cs (o .1))
 
 -- the written-frames number is the count over the history
-pub run-counts : (s : Settings) → Accepted s → (cs : List Call) → AllOfOctets cs → after s cs .meter .written ≡ framesIn s cs
+pub run-counts : (s : Settings) → Accepted s → (cs : List Call) → AllOfOctets cs → after s cs .meter .written ≡ framesIn (history s cs)
 run-counts s a cs o = run-agrees s a cs o .written
 
 -- "No end writes more than ten frames in one of its timer seconds."
-pub run-limit : (s : Settings) → Accepted s → (cs : List Call) → AllOfOctets cs → framesIn s cs ≤ 10
+pub run-limit : (s : Settings) → Accepted s → (cs : List Call) → AllOfOctets cs → framesIn (history s cs) ≤ 10
 run-limit s a cs o = omega (arith, run-counts s a cs o, run-is s a cs o .stands .meter .written)

@@ -25,10 +25,11 @@ use Rattle.end.specs.Granting.{granted}
 use Rattle.link.specs.Requests.{requestToSend}
 use Rattle.end.specs.Ranges.{ranged}
 use Rattle.reach.specs.Machine.{Request, Input, Call, askedOf, outcomeOf, outputOf, bodyBy, meant}
+use Rattle.reach.specs.Premises.{OfOctets}
 use Rattle.reach.proofs.Bools.{whether}
 use Rattle.reach.proofs.Coming.{Made, ticks, reports, hears, noted, Concludes, Grants, Comes, refuses, concludes, grants, comes}
 use Rattle.reach.proofs.Standing.{Stands, Ranged, ranged-is}
-use Rattle.reach.proofs.Keeping.{OfOctets, InputFits, octets-fit}
+use Rattle.reach.proofs.Keeping.{InputFits, octets-fit}
 use Rattle.reach.proofs.Staying.{Lasting, made-stays, asked-stays}
 use Rattle.reach.proofs.Passing.{Passes, passes-grant}
 use Rattle.reach.proofs.Ranging.{noted-ranged, asked-ranged}
@@ -80,7 +81,7 @@ sent-tlvs : (e : End) → tlvsToSend (sent e) ≡ tlvsToSend e
 unfolding tlvsToSend sent
 sent-tlvs e = refl
 
-made-body : (e after : End) (i : Input) (t : Taken) → Made e i t → bodyBy i e after ≡ information (partsOf (tlvsToSend after))
+pub made-body : (e after : End) (i : Input) (t : Taken) → Made e i t → bodyBy i e after ≡ information (partsOf (tlvsToSend after))
 made-body e after i t ticks = refl
 made-body e after i t (reports r) = refl
 made-body e after i t (hears f m d) = refl

@@ -6,7 +6,6 @@ use native.Mathlib.Omega.{arith}
 use borrow.Author.Tests.{leb-false}
 use lib.Dec.{leb}
 use Rattle.frame.specs.Frame.{Message, accepted, decode}
-use Rattle.tlvs.proofs.Numbers.{Octets}
 use Rattle.tlvs.proofs.Walks.{by-cond}
 use Rattle.discovery.specs.Standing.{isAny, roleIn}
 use Rattle.limit.specs.Limit.{closing, turnedMeter}
@@ -26,6 +25,7 @@ use Rattle.end.specs.Reporting.{linkUp, linkDown, reported}
 use Rattle.end.specs.Taking.{learned, acted, takenUp, taken}
 use Rattle.end.specs.Ranges.{heldFits, lastFits, idle, blank}
 use Rattle.reach.specs.Machine.{Input, tick, report, receive, request}
+use Rattle.reach.specs.Premises.{OfOctets}
 use Rattle.reach.proofs.Bools.{not-both}
 use Rattle.reach.proofs.Coming.{localIn, actionIn, heardIn, Made, ticks, reports, hears}
 use Rattle.reach.proofs.Standing.{Fitting, Bounded, relinked, remetered, Stands, Rests}
@@ -154,13 +154,6 @@ unfolding learned acted inAny discoveryOf
 taken-rests m e h = by-taken (heardIn m) e Rests (λ _. h) (λ _ n _. settled-rests _ n) (λ _ t _ n. not-both t n)
 
 -- ---- what is made of an end by any of them
-
--- frames are of octets
-abbrev pub OfOctets : Input → Type 0
-OfOctets tick = Unit {0}
-OfOctets (report r) = Unit {0}
-OfOctets (receive f) = Octets f
-OfOctets (request q) = Unit {0}
 
 -- what is heard of a frame fits what is kept of it, as it does of every frame of octets
 abbrev pub InputFits : Input → Type 0

@@ -13,4 +13,10 @@ pub mod Counting
 pub mod Waiting
 pub mod Numbering
 pub mod Losing
+pub mod Effects
+pub mod Moving
+pub mod InSendAny
+pub mod Beginning
+pub mod Saying
+pub mod Owed
 pub mod Witness

@@ -49,7 +49,7 @@ role-rests SendLocalRemote = refl
 role-rests SendLocalRemoteOk = refl
 role-rests SendAny = refl
 
-rests : (e : End) → e .role ≡ Idle → settled e .role ≡ Idle
+pub rests : (e : End) → e .role ≡ Idle → settled e .role ≡ Idle
 unfolding settled
 rests e h = ap (roleIn (discoveryOf e)) h ∙ role-rests (discoveryOf e)
 

@@ -36,8 +36,9 @@ use Rattle.end.specs.State.{discoveryOf}
 use Rattle.end.specs.Sending.{flagsToSend, tlvsToSend}
 use Rattle.link.specs.Outcomes.{informationToSend}
 use Rattle.end.specs.Ranges.{heldFits}
+use Rattle.reach.specs.Premises.{Accepted}
 use Rattle.reach.proofs.Bools.{whether}
-use Rattle.reach.proofs.Standing.{Accepted, Stands}
+use Rattle.reach.proofs.Standing.{Stands}
 
 -- ---- flags
 
@@ -53,7 +54,7 @@ joined-plain f l r =
     let b : flagsOf (joined f) .remote ≡ f .remote = ap (λ (x : Flags). x .remote) s in
     rw (lt-ltb (joined f) 128 (joined-below f), ne-eqb (joined f / 8 % 4) 3 (λ z. omega arith), ne-eqb (joined f / 32 % 4) 3 (λ z. omega arith))
 
-local-le : (d : Discovery) → localField d ≤ 2
+pub local-le : (d : Discovery) → localField d ≤ 2
 local-le Fault = omega arith
 local-le ActiveSendLocal = omega arith
 local-le PassiveWait = omega arith
@@ -61,7 +62,7 @@ local-le SendLocalRemote = omega arith
 local-le SendLocalRemoteOk = omega arith
 local-le SendAny = omega arith
 
-remote-le : (kept : ℕ) (peer : Held) → kept ≤ 2 → remoteField kept peer ≤ 2
+pub remote-le : (kept : ℕ) (peer : Held) → kept ≤ 2 → remoteField kept peer ≤ 2
 unfolding remoteField
 remote-le kept Nothing h = omega arith
 remote-le kept (Is i) h = h

@@ -26,10 +26,11 @@ use Rattle.end.specs.Granting.{granted}
 use Rattle.end.specs.Ranges.{idle, ranged}
 use Rattle.reach.specs.Machine.{Request, start, stop, variables, notify, tell, Input, Call, askedOf, outcomeOf}
 use Rattle.reach.specs.Runs.{after}
+use Rattle.reach.specs.Premises.{Accepted, OfOctets, AllOfOctets}
 use Rattle.reach.proofs.Bools.{not-both, whether}
 use Rattle.reach.proofs.Coming.{Made, noted, Comes, refuses, concludes, grants, comes}
-use Rattle.reach.proofs.Standing.{Accepted, Bounded, remetered, renumbered, Stands, Rests, Ranged, ranged-is, is-ranged, fresh-is}
-use Rattle.reach.proofs.Keeping.{OfOctets, InputFits, octets-fit, made-stands, made-rests}
+use Rattle.reach.proofs.Standing.{Bounded, remetered, renumbered, Stands, Rests, Ranged, ranged-is, is-ranged, fresh-is}
+use Rattle.reach.proofs.Keeping.{InputFits, octets-fit, made-stands, made-rests}
 use Rattle.reach.proofs.Staying.{Lasting, asked-stays}
 use Rattle.reach.proofs.Passing.{passes-grant}
 
@@ -128,11 +129,6 @@ keeps-ranged c e o r = by-comes c e o r (comes c e)
 
 pub call-ranged : (c : Call) (e : End) → OfOctets (c .input) → ranged e ≡ true → ranged (outcomeOf c e .end) ≡ true
 call-ranged c e o h = is-ranged (outcomeOf c e .end) (keeps-ranged c e (octets-fit (c .input) o) (ranged-is e h))
-
--- every frame of a list of calls is of octets
-abbrev pub AllOfOctets : List Call → Type 0
-AllOfOctets [] = Unit {0}
-AllOfOctets (c ∷ cs) = OfOctets (c .input) × AllOfOctets cs
 
 -- and so does any list of calls
 pub run-is : (s : Settings) → Accepted s → (cs : List Call) → AllOfOctets cs → Ranged (after s cs)

@@ -18,14 +18,10 @@ use Rattle.end.specs.State.{freshEnd, freshOf, inAny}
 use Rattle.end.specs.Sending.{allowed}
 use Rattle.end.specs.Ranges.{tests, heldFits, lastFits, idle, blank, ranged}
 use Rattle.end.proofs.Ranging.{all-at}
+use Rattle.reach.specs.Premises.{Accepted}
 use Rattle.reach.proofs.Bools.{or-l, or-r, implies, is-or-l, is-or-r, is-implied}
 
 -- ---- the parts
-
--- settings that the paper takes, whose vendor fits its four octets
-pub record Accepted (s : Settings) : Type 0 where
-  pub sound : sound s ≡ true
-  pub vendor : s .vendor < 2 ^ 32
 
 -- the kept field is at most 2; the record and the event number fit their octets
 pub record Fitting (p : Peer) : Type 0 where

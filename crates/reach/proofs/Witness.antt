@@ -37,7 +37,8 @@ use Rattle.end.specs.State.{freshEnd, discoveryOf, inAny, faulted, settled}
 use Rattle.end.specs.Ticking.{missed, ticked, tickedDue}
 use Rattle.link.specs.Ticks.{tickOf, tickOutput}
 use Rattle.reach.specs.Machine.{Input, tick, report, receive, request, tell, Call, outcomeOf}
-use Rattle.reach.specs.Runs.{after, framesIn}
+use Rattle.reach.specs.Runs.{after, history}
+use Rattle.reach.specs.Seconds.{framesIn}
 
 -- all definitions of the machine, opened at once
 unfoldable pub machine : Unit {0}
@@ -79,11 +80,11 @@ pub record Witness : Type 0 where
   -- an end loops
   pub loops : after settings looped .role ≡ Looping
   -- ten frames are written, and a request for the eleventh is 13
-  pub ten : framesIn settings busy ≡ 10
+  pub ten : framesIn (history settings busy) ≡ 10
   pub eleventh : outcomeOf tells (after settings busy) .answer ≡ 13
   -- the tenth tick closes the second, and its own frame belongs to the new one
-  pub ninth-tick : framesIn settings (quiet 9) ≡ 3
-  pub tenth-tick : framesIn settings (quiet 10) ≡ 1
+  pub ninth-tick : framesIn (history settings (quiet 9)) ≡ 3
+  pub tenth-tick : framesIn (history settings (quiet 10)) ≡ 1
   -- a lost-link count of 49 stays, 50 enters FAULT
   pub forty-nine : after settings (quiet 49) .role ≡ Looping
   pub fifty : discoveryOf (after settings (quiet 50)) ≡ ActiveSendLocal

@@ -2,7 +2,7 @@
 -- the call in `link` cites.
 use Prim.Native.Nat.{ℕ}
 use mathlib.Core.List.{List}
-use lib.ListN.{length}
+use lib.ListN.{length, take}
 use Rattle.frame.specs.Frame.{Body, information, Message}
 use Rattle.writer.specs.Writing.{messageOf, partsOf}
 use Rattle.end.specs.declared.End.{End}
@@ -62,6 +62,10 @@ outcomeOf c e = outcomeBy (c .input) (length (c .out)) e
 -- the lent output after it
 abbrev pub outputOf : Call → End → List ℕ
 outputOf c e = outputBy (c .input) e (c .out)
+
+-- the frame that it wrote, no octets for none
+abbrev pub frameOf : Call → End → List ℕ
+frameOf c e = take (outcomeOf c e .length) (outputOf c e)
 
 -- ---- the frame that is meant where a call writes one
 
