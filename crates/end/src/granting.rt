@@ -46,7 +46,10 @@ fn decide(answer: u8, e: End, next: End) -> Decided
             end: charge(e, next),
         };
     }
-    Decided { answer: answer, end: e }
+    Decided {
+        answer: answer,
+        end: e,
+    }
 }
 
 // A loopback start, whose frame has 60 octets.

@@ -31,7 +31,11 @@ fn said_by(reading: Reading) -> Said
         Reading::Notification(header, n) => heard(header, Held::Nothing, Action::Notify(n)),
         Reading::Request(header) => heard(header, Held::Nothing, Action::Other),
         Reading::Response(header) => heard(header, Held::Nothing, Action::Other),
-        Reading::Loopback(header, command) => heard(header, Held::Nothing, Action::Command(command)),
+        Reading::Loopback(header, command) => heard(
+            header,
+            Held::Nothing,
+            Action::Command(command),
+        ),
         Reading::Organization(header, _) => heard(header, Held::Nothing, Action::Other),
     }
 }
