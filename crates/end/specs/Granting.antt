@@ -1,13 +1,16 @@
 -- What a request makes of an end, and the answer to it.
 use Prim.Native.Nat.{ℕ}
-use mathlib.Core.Bool.{Bool, false}
-use lib.Dec.{ltb, leb}
+use mathlib.Core.Bool.{Bool, true, false, cond}
+use lib.Dec.{ltb, leb, eqb}
 use Rattle.peer.specs.Peers.{peerMaximum}
 use Rattle.limit.specs.Asking.{fitsBoth, requestAnswer}
 use Rattle.limit.specs.Limit.{room, chargedMeter}
 use Rattle.limit.specs.Owing.{following}
+use Rattle.loopback.specs.Loopback.{mayStart, mayStop}
+use Rattle.loopback.specs.declared.Role.the-variants.{Asking, Ending}
 use Rattle.end.specs.declared.End.{End}
-use Rattle.end.specs.State.{withMeter, withOwn, inAny}
+use Rattle.end.specs.declared.Decided.{Decided}
+use Rattle.end.specs.State.{withRole, withMeter, withOwn, inAny}
 use Rattle.end.specs.Sending.{dues}
 
 -- "The event number sent does the same at each notification": this one carries the present number
@@ -23,3 +26,24 @@ answerTo octets permitted lent e =
 -- the end after a request is granted: its revision, what is owed, and one frame more that is written
 unfoldable pub granted : End → End → End
 granted before e = withMeter (chargedMeter (dues before false e .meter)) (dues before false e)
+
+-- what is decided of a request that has an answer and makes `next` of an end: a refusal leaves the end
+unfoldable pub decided : ℕ → End → End → Decided
+decided answer e next = record { answer = answer; end = cond (eqb answer 0) (granted e next) e }
+
+-- "Start (Idle or Asking): Asking, enable sent.", by the lent output's length; a loopback command's frame has 60 octets
+unfoldable pub grantedStart : ℕ → End → Decided
+grantedStart lent e =
+    decided (answerTo 60 (mayStart (e .settings .configuration) (e .peer .held) (e .role)) lent e) e (withRole Asking e)
+
+-- "Stop (Asking, Holding, Ending): Ending, disable sent."
+unfoldable pub grantedStop : ℕ → End → Decided
+grantedStop lent e = decided (answerTo 60 (mayStop (e .settings .configuration) (e .role)) lent e) e (withRole Ending e)
+
+-- a frame that changes nothing else of the end
+unfoldable pub grantedFrame : ℕ → Bool → ℕ → End → Decided
+grantedFrame octets permitted lent e = decided (answerTo octets permitted lent e) e e
+
+-- a notification
+unfoldable pub grantedNumber : ℕ → ℕ → End → Decided
+grantedNumber octets lent e = decided (answerTo octets true lent e) e (numbered e)

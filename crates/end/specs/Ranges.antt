@@ -11,6 +11,7 @@ use Rattle.writer.specs.Encode.{informationWidths, informationValues}
 use Rattle.peer.specs.Ranges.{sound}
 use Rattle.peer.specs.Peers.{held}
 use Rattle.limit.specs.Limit.{bounded}
+use Rattle.loopback.specs.Loopback.{roleFits}
 use Rattle.loopback.specs.declared.Role.{Role}
 use Rattle.loopback.specs.declared.Role.the-variants.{Idle, Asking, Holding, Ending, Looping}
 use Rattle.end.specs.declared.Last.{Last}
@@ -54,6 +55,10 @@ idle Looping = false
 unfoldable pub blank : Peer → Bool
 blank p = eqb (p .kept) 0 && (not (held (p .held)) && never (p .last))
 
+-- a last event number is kept only beside a record: "only SEND_ANY keeps one", and FAULT clears both
+abbrev pub besides : Peer → Bool
+besides p = never (p .last) || held (p .held)
+
 abbrev pub tests : End → List Bool
 tests e =
     sound (e .settings)
@@ -62,8 +67,10 @@ tests e =
     ∷ leb (e .peer .kept) 2
     ∷ heldFits (e .peer .held)
     ∷ lastFits (e .peer .last)
+    ∷ besides (e .peer)
     ∷ (e .link .up || blank (e .peer))
     ∷ (idle (e .role) || inAny e)
+    ∷ roleFits (e .settings .configuration) (e .role)
     ∷ bounded (e .meter)
     ∷ ltb (e .own .revision) (2 ^ 16)
     ∷ ltb (e .own .number) (2 ^ 16)

@@ -19,10 +19,6 @@ use Rattle.end.specs.declared.Taken.{Taken}
 use Rattle.end.specs.State.{withLink, withPeer, withRole, inAny, settled}
 use Rattle.end.specs.Sending.{dues}
 
--- what the machine hears of an accepted frame: its header, its Local TLV if it has one, and what its body asks
-abbrev pub heardOf : Header → Held → Action → Heard
-heardOf h local action = record { header = h; local = local; action = action }
-
 -- "lost-link count to 0; kept field from the flags; peer record from any Local TLV; moves"
 unfoldable pub learned : Heard → End → End
 learned m e =

@@ -1,7 +1,7 @@
 // What a request makes of an end, and the answer to it.
 ghost use mathlib.Core.Path.{_≡_};
-ghost use Rattle.end.specs.Granting.{numbered, answerTo, granted};
-ghost use Rattle.end.specs.State.{withRole};
+ghost use Rattle.end.specs.Granting.{answerTo, granted, decided, grantedStart, grantedStop, grantedFrame, grantedNumber};
+use crate::Decided;
 use crate::End;
 use crate::Own;
 use crate::sending::note;
@@ -9,7 +9,7 @@ use crate::state::in_any;
 use loopback::Role;
 
 // The answer to a request for a frame of some octets, 0 where it has no plain form.
-pub fn answer_to(octets: usize, permitted: bool, lent: usize, e: End) -> u8
+fn answer_to(octets: usize, permitted: bool, lent: usize, e: End) -> u8
     ensures { λ r. ⌜ r ≡ answerTo octets permitted lent e ⌝ }
 {
     let settings = e.settings;
@@ -36,28 +36,71 @@ fn charge(before: End, e: End) -> End
     }
 }
 
-// A request is granted that changes nothing else of the end.
-pub fn grant(e: End) -> End
-    ensures { λ r. ⌜ r ≡ granted e e ⌝ }
+// The end after a request: as it is made where the answer is 0, else as it was.
+fn decide(answer: u8, e: End, next: End) -> Decided
+    ensures { λ r. ⌜ r ≡ decided answer e next ⌝ }
 {
-    charge(e, e)
+    if answer == 0 {
+        return Decided {
+            answer: answer,
+            end: charge(e, next),
+        };
+    }
+    Decided {
+        answer: answer,
+        end: e,
+    }
 }
 
-// A loopback request is granted, with the role that the end takes.
-pub fn grant_role(e: End, role: Role) -> End
-    ensures { λ r. ⌜ r ≡ granted e (withRole role e) ⌝ }
+// A loopback start, whose frame has 60 octets.
+pub fn grant_start(e: End, lent: usize) -> Decided
+    ensures { λ r. ⌜ r ≡ grantedStart lent e ⌝ }
 {
-    charge(e, End { role: role, ..e })
+    let settings = e.settings;
+    let peer = e.peer;
+    let held = peer.held;
+    let role = e.role;
+    let permitted = loopback::may_start(settings.configuration, held, role);
+    let next = End {
+        role: Role::Asking,
+        ..e
+    };
+    decide(answer_to(60, permitted, lent, e), e, next)
 }
 
-// A notification is granted: the next one carries the next number.
-pub fn grant_number(e: End) -> End
-    ensures { λ r. ⌜ r ≡ granted e (numbered e) ⌝ }
+// A loopback stop.
+pub fn grant_stop(e: End, lent: usize) -> Decided
+    ensures { λ r. ⌜ r ≡ grantedStop lent e ⌝ }
+{
+    let settings = e.settings;
+    let role = e.role;
+    let permitted = loopback::may_stop(settings.configuration, role);
+    let next = End {
+        role: Role::Ending,
+        ..e
+    };
+    decide(answer_to(60, permitted, lent, e), e, next)
+}
+
+// A request for a frame of some octets that changes nothing else of the end.
+pub fn grant_frame(octets: usize, permitted: bool, lent: usize, e: End) -> Decided
+    ensures { λ r. ⌜ r ≡ grantedFrame octets permitted lent e ⌝ }
+{
+    decide(answer_to(octets, permitted, lent, e), e, e)
+}
+
+// A notification of some octets: the next one carries the next number.
+pub fn grant_number(octets: usize, lent: usize, e: End) -> Decided
+    ensures { λ r. ⌜ r ≡ grantedNumber octets lent e ⌝ }
 {
     let own = e.own;
-    let next = Own {
-        number: limit::next_number(own.number),
-        ..own
+    let number = limit::next_number(own.number);
+    let next = End {
+        own: Own {
+            number: number,
+            ..own
+        },
+        ..e
     };
-    charge(e, End { own: next, ..e })
+    decide(answer_to(octets, true, lent, e), e, next)
 }

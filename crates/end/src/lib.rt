@@ -2,8 +2,10 @@
 //
 // The state is cut by who changes it, so that what a step does not touch stays as it is by computation. An end's parts are
 // given out and taken back whole (`end_with` tests them), and nothing but a step of this crate changes one. Every step is
-// total on any end; which ends calls can make is shown in `reach`.
+// total on any end, and every public function here that gives an end gives one that keeps to its ranges for one that does
+// (shown in `reach`): a request's test and its step are one function, and what is heard comes of a frame alone.
 mod granting;
+mod hearing;
 mod ranges;
 mod reporting;
 mod sending;
@@ -13,10 +15,11 @@ mod ticking;
 
 use body::Held;
 use frame::Header;
-pub use granting::answer_to;
-pub use granting::grant;
+pub use granting::grant_frame;
 pub use granting::grant_number;
-pub use granting::grant_role;
+pub use granting::grant_start;
+pub use granting::grant_stop;
+pub use hearing::hear;
 use limit::Meter;
 use loopback::Role;
 use peer::Settings;
@@ -86,9 +89,15 @@ pub enum Action {
 
 // What is heard of an accepted frame.
 pub struct Heard {
-    pub header: Header,
-    pub local: Held,
-    pub action: Action,
+    header: Header,
+    local: Held,
+    action: Action,
+}
+
+// Why a frame is refused, or what is heard of it.
+pub enum Said {
+    Refusal(u8),
+    Is(Heard),
 }
 
 // What a receive shows: nothing, the header of an accepted frame, or the header and the number of a notification whose
@@ -110,4 +119,10 @@ pub struct Taken {
 pub enum FreshEnd {
     Refused(u8),
     Is(End),
+}
+
+// What is decided of a request: the answer, 0 where it is granted, and the end after it.
+pub struct Decided {
+    pub answer: u8,
+    pub end: End,
 }

@@ -1,6 +1,6 @@
 // What every end keeps to that calls have made of a fresh one.
 ghost use mathlib.Core.Path.{_≡_};
-ghost use Rattle.end.specs.Ranges.{heldFits, lastFits, never, idle, blank, ranged, endWith, checked};
+ghost use Rattle.end.specs.Ranges.{heldFits, lastFits, never, idle, blank, besides, ranged, endWith, checked};
 use crate::End;
 use crate::FreshEnd;
 use crate::Last;
@@ -63,6 +63,15 @@ fn is_blank(peer: Peer) -> bool
     peer::all_three(peer.kept == 0, !peer::is_held(held), is_never(last))
 }
 
+// A last event number is kept only beside a record.
+fn is_beside(peer: Peer) -> bool
+    ensures { λ r. ⌜ r ≡ besides peer ⌝ }
+{
+    let held = peer.held;
+    let last = peer.last;
+    peer::either(is_never(last), peer::is_held(held))
+}
+
 // Whether an end keeps to its ranges. What its types alone keep to is not tested.
 fn is_ranged(e: End) -> bool
     ensures { λ r. ⌜ r ≡ ranged e ⌝ }
@@ -71,15 +80,18 @@ fn is_ranged(e: End) -> bool
     let held = peer.held;
     let last = peer.last;
     let role = e.role;
+    let settings = e.settings;
     let standing = discovery(e);
     let allowed = discovery::allowed_in(standing, is_fault(e));
     let owed = peer::either(!e.own.owed, allowed);
     let used = peer::either(is_idle(role), discovery::is_any(standing));
+    let fits = loopback::role_fits(settings.configuration, role);
     let cleared = peer::either(e.link.up, is_blank(peer));
-    let kept = peer::all_four(cleared, used, limit::is_bounded(e.meter), owed);
+    let others = peer::all_four(used, fits, limit::is_bounded(e.meter), owed);
+    let kept = peer::all_three(is_beside(peer), cleared, others);
     let parts = peer::all_three(held_fits(held), last_fits(last), kept);
     peer::all_four(
-        peer::is_sound(e.settings),
+        peer::is_sound(settings),
         e.link.lost < 50,
         peer.kept <= 2,
         parts,

@@ -18,9 +18,9 @@ bounded m = ltb (m .ticks) 10 && leb (m .written) 10
 unfoldable pub room : Meter → Bool
 room m = ltb (m .written) 10
 
--- one frame more is written (the number is at most 10 wherever room was asked first, and never goes past what its octet holds)
+-- one frame more is written (room is asked first, and never more than ten are counted)
 unfoldable pub chargedMeter : Meter → Meter
-chargedMeter m = record { ticks = m .ticks; written = cond (ltb (m .written) 255) (m .written + 1) (m .written) }
+chargedMeter m = record { ticks = m .ticks; written = cond (room m) (m .written + 1) (m .written) }
 
 -- "every tenth tick from fresh (link down or up) closes a timer second"
 unfoldable pub closing : Meter → Bool

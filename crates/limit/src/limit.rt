@@ -20,11 +20,11 @@ pub fn has_room(meter: Meter) -> bool
     meter.written < 10
 }
 
-// One frame more is written.
+// One frame more is written; never more than ten are counted.
 pub fn charged(meter: Meter) -> Meter
     ensures { λ r. ⌜ r ≡ chargedMeter meter ⌝ }
 {
-    if meter.written < 255 {
+    if has_room(meter) {
         return Meter {
             written: meter.written + 1,
             ..meter

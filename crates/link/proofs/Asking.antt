@@ -1,42 +1,61 @@
--- What a request comes to, by its answer.
+-- What a decided request comes to, by its answer.
 use Prim.Native.Nat.{ℕ}
-use mathlib.Core.Path.{_≡_, sym, ap, _∙_}
+use mathlib.Core.Path.{_≡_, refl, sym, ap, _∙_}
 use mathlib.Core.List.{List}
-use mathlib.Core.Bool.{true, false}
-use borrow.Author.Tests.{eq-eqb, ne-eqb}
+use mathlib.Core.Bool.{false}
+use borrow.Author.Tests.{ne-eqb}
 use lib.Dec.{eqb}
 use lib.ListN.{length}
-use Rattle.frame.specs.Frame.{Message}
+use Rattle.frame.specs.Frame.{Body, Message}
 use Rattle.writer.specs.Writing.{writes, written, Writing, messageOf}
 use Rattle.writer.specs.declared.Written.{Written}
+use Rattle.writer.specs.Plain.{sized}
+use Rattle.tlvs.proofs.Walks.{by-cond}
 use Rattle.end.specs.declared.End.{End}
-use Rattle.link.specs.declared.Outcome.{Outcome}
+use Rattle.end.specs.declared.Decided.{Decided}
 use Rattle.end.specs.declared.Shown.the-variants.{Nothing}
-use Rattle.end.specs.Sending.{flagsToSend}
+use Rattle.end.specs.Sending.{dues, flagsToSend}
+use Rattle.end.specs.Granting.{answerTo, granted, decided}
+use Rattle.link.specs.declared.Outcome.{Outcome}
 use Rattle.link.specs.Outcomes.{lengthOf, outcome}
-use Rattle.link.specs.Requests.{Asked, requestToSend, asks, asksOutput, concludedRequest, concludedRequestOutput}
-use Rattle.end.specs.Granting.{answerTo, granted}
+use Rattle.link.specs.Requests.{Asked, requestToSend, concludedRequest, concludedRequestOutput, asks, asksOutput, requestOf, requestOutput}
 
-module _ (octets : ℕ) (a : Asked) (e : End) (out : List ℕ) (answer : ℕ) (answers : answer ≡ answerTo octets (a .permitted) (length out) e) where
-  -- the two promises of a request
-  abbrev pub Asks : Outcome → List ℕ → Type 0
-  Asks r exit = (r ≡ asks octets a (length out) e) × (exit ≡ asksOutput octets a e out)
+-- the two promises of a request
+abbrev pub Asks : Decided → Body → List ℕ → Outcome → List ℕ → Type 0
+Asks d body out r exit = (r ≡ concludedRequest d body (length out)) × (exit ≡ concludedRequestOutput d body out)
 
+module _ (d : Decided) (body : Body) (out : List ℕ) where
   -- granted: its frame is written, by the end as it stands after the call
-  pub grants : answer ≡ 0 → (after : End) (source flags : ℕ) (w : Written) (r : Outcome) (exit : List ℕ) → after ≡ granted e (a .next)
-      → source ≡ granted e (a .next) .settings .source → flags ≡ flagsToSend after → Writing (messageOf source flags (a .body)) out w exit
-      → r ≡ outcome after 0 (lengthOf w) Nothing → Asks r exit
-  unfolding asks asksOutput concludedRequest concludedRequestOutput requestToSend
-  grants none after source flags w r exit g s f h o =
-      let z : eqb (answerTo octets (a .permitted) (length out) e) 0 ≡ true = eq-eqb _ _ (sym answers ∙ none) in
-      let f2 : flags ≡ flagsToSend (granted e (a .next)) = f ∙ ap flagsToSend g in
-      let m : messageOf source flags (a .body) ≡ requestToSend (a .body) (granted e (a .next)) = λ i. messageOf (s i) (f2 i) (a .body) in
-      let l : w ≡ writes (requestToSend (a .body) (granted e (a .next))) (length out) = h .answers ∙ ap (λ (x : Message). writes x (length out)) m in
-      (rw z (o ∙ (λ i. outcome (g i) 0 (lengthOf (l i)) Nothing)), rw z (h .output ∙ ap (λ (x : Message). written x out) m))
+  pub grants : d .answer ≡ 0 → (source flags : ℕ) (w : Written) (r : Outcome) (exit : List ℕ)
+      → source ≡ d .end .settings .source → flags ≡ flagsToSend (d .end) → Writing (messageOf source flags body) out w exit
+      → r ≡ outcome (d .end) 0 (lengthOf w) Nothing → Asks d body out r exit
+  unfolding concludedRequest concludedRequestOutput requestToSend
+  grants none source flags w r exit s f h o =
+      let m : messageOf source flags body ≡ requestToSend body (d .end) = λ i. messageOf (s i) (f i) body in
+      let l : w ≡ writes (requestToSend body (d .end)) (length out) = h .answers ∙ ap (λ (x : Message). writes x (length out)) m in
+      (rw none (o ∙ (λ i. outcome (d .end) 0 (lengthOf (l i)) Nothing)), rw none (h .output ∙ ap (λ (x : Message). written x out) m))
 
-  -- refused: its number, and everything as it was
-  pub refuses : (answer ≡ 0 → ⊥) → (r : Outcome) → r ≡ outcome e answer 0 Nothing → Asks r out
-  unfolding asks asksOutput concludedRequest concludedRequestOutput
+  -- refused: its number, and the output as it was
+  pub refuses : (d .answer ≡ 0 → ⊥) → (r : Outcome) → r ≡ outcome (d .end) (d .answer) 0 Nothing → Asks d body out r out
+  unfolding concludedRequest concludedRequestOutput
   refuses some r o =
-      let z : eqb (answerTo octets (a .permitted) (length out) e) 0 ≡ false = ne-eqb _ _ (λ q. some (answers ∙ q)) in
-      (rw z (o ∙ rw answers), rw z)
+      let z : eqb (d .answer) 0 ≡ false = ne-eqb (d .answer) 0 some in
+      (rw z o, rw z)
+
+-- a request of an end, as it is decided
+module _ (a : Asked) (e : End) (out : List ℕ) (d : Decided)
+    (decides : d ≡ decided (answerTo (sized (a .body)) (a .permitted) (length out) e) e (a .next)) where
+  abbrev pub Requests : Outcome → List ℕ → Type 0
+  Requests r exit = (r ≡ requestOf a (length out) e) × (exit ≡ requestOutput a e out)
+
+  pub requests : (r : Outcome) (exit : List ℕ) → Asks d (a .body) out r exit → Requests r exit
+  unfolding asks asksOutput
+  requests r exit h =
+      (h .0 ∙ ap (λ (x : Decided). concludedRequest x (a .body) (length out)) decides, h .1 ∙ ap (λ (x : Decided). concludedRequestOutput x (a .body) out) decides)
+
+  -- no request changes the settings
+  pub decided-source : a .next .settings ≡ e .settings → e .settings .source ≡ d .end .settings .source
+  unfolding decided granted dues
+  decided-source h =
+      by-cond (λ (x : End). e .settings .source ≡ x .settings .source) (eqb (answerTo (sized (a .body)) (a .permitted) (length out) e) 0) (λ _. rw h) (λ _. refl)
+      ∙ sym (ap (λ (x : Decided). x .end .settings .source) decides)

@@ -12,12 +12,13 @@ use Rattle.loopback.specs.Loopback.{mayStart, mayStop}
 use Rattle.loopback.specs.declared.Role.{Role}
 use Rattle.loopback.specs.declared.Role.the-variants.{Asking, Ending}
 use Rattle.end.specs.declared.End.{End}
+use Rattle.end.specs.declared.Decided.{Decided}
 use Rattle.end.specs.declared.Shown.the-variants.{Nothing}
 use Rattle.link.specs.declared.Outcome.{Outcome}
 use Rattle.end.specs.State.{withRole}
 use Rattle.end.specs.Sending.{flagsToSend}
 use Rattle.link.specs.Outcomes.{lengthOf, outcome}
-use Rattle.end.specs.Granting.{answerTo, granted, numbered}
+use Rattle.end.specs.Granting.{answerTo, decided, numbered}
 
 -- a request: whether the role, the mode and the peer's capability allow it, what it makes of the end, and the body of its frame
 pub record Asked : Type 0 where
@@ -52,23 +53,20 @@ telling oui x e = record { permitted = true; next = e; body = organization oui x
 unfoldable pub requestToSend : Body → End → Message
 requestToSend body after = messageOf (after .settings .source) (flagsToSend after) body
 
--- what an answered request comes to, and the output after it
-unfoldable pub concludedRequest : ℕ → Asked → ℕ → End → Outcome
-concludedRequest answer a lent e =
-    cond (eqb answer 0)
-    (outcome (granted e (a .next)) 0 (lengthOf (writes (requestToSend (a .body) (granted e (a .next))) lent)) Nothing)
-    (outcome e answer 0 Nothing)
+-- what a decided request comes to, by the body of its frame, and the output after it
+unfoldable pub concludedRequest : Decided → Body → ℕ → Outcome
+concludedRequest d body lent =
+    outcome (d .end) (d .answer) (cond (eqb (d .answer) 0) (lengthOf (writes (requestToSend body (d .end)) lent)) 0) Nothing
 
-unfoldable pub concludedRequestOutput : ℕ → Asked → End → List ℕ → List ℕ
-concludedRequestOutput answer a e out =
-    cond (eqb answer 0) (written (requestToSend (a .body) (granted e (a .next))) out) out
+unfoldable pub concludedRequestOutput : Decided → Body → List ℕ → List ℕ
+concludedRequestOutput d body out = cond (eqb (d .answer) 0) (written (requestToSend body (d .end)) out) out
 
 -- a request for a frame of some octets
 unfoldable pub asks : ℕ → Asked → ℕ → End → Outcome
-asks octets a lent e = concludedRequest (answerTo octets (a .permitted) lent e) a lent e
+asks octets a lent e = concludedRequest (decided (answerTo octets (a .permitted) lent e) e (a .next)) (a .body) lent
 
 unfoldable pub asksOutput : ℕ → Asked → End → List ℕ → List ℕ
-asksOutput octets a e out = concludedRequestOutput (answerTo octets (a .permitted) (length out) e) a e out
+asksOutput octets a e out = concludedRequestOutput (decided (answerTo octets (a .permitted) (length out) e) e (a .next)) (a .body) out
 
 -- a request
 abbrev pub requestOf : Asked → ℕ → End → Outcome

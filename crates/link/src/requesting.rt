@@ -1,14 +1,15 @@
 // The five requests. None of them writes an owed Information frame: the next tick, receive or report does.
 ghost use mathlib.Core.Path.{_≡_};
 ghost use lib.ListN.{length};
+ghost use Rattle.frame.specs.Frame.{loopback};
 ghost use Rattle.link.specs.Outcomes.{lengthOf, outcome};
-ghost use Rattle.link.specs.Requests.{commanding, starting, stopping, requesting, notifying, telling, asks, asksOutput, requestOf, requestOutput};
+ghost use Rattle.link.specs.Requests.{starting, stopping, requesting, notifying, telling, concludedRequest, concludedRequestOutput, requestOf, requestOutput};
 use crate::Outcome;
 use crate::concluding::length_of;
 use crate::concluding::outcome;
+use end::Decided;
 use end::End;
 use end::Shown;
-use loopback::Role;
 use writer::Written;
 
 fn refuse(e: End, answer: u8) -> Outcome
@@ -23,40 +24,31 @@ fn send(e: End, written: Written) -> Outcome
     outcome(e, 0, length_of(written), Shown::Nothing)
 }
 
-// A loopback command, and the role that the end takes with it.
-fn order(permitted: bool, role: Role, command: u8, e: End, out: &mut [u8]) -> Outcome
-    ensures { λ r. ⌜ (r ≡ asks 60 (commanding permitted role command e) (length (now (out .entry))) e) × (now (out .exit) ≡ asksOutput 60 (commanding permitted role command e) e (now (out .entry))) ⌝ }
+// A loopback command that is decided.
+fn order(decided: Decided, command: u8, out: &mut [u8]) -> Outcome
+    ensures { λ r. ⌜ (r ≡ concludedRequest decided (loopback command) (length (now (out .entry)))) × (now (out .exit) ≡ concludedRequestOutput decided (loopback command) (now (out .entry))) ⌝ }
 {
-    let answer = end::answer_to(60, permitted, out.len(), e);
-    if answer == 0 {
-        let after = end::grant_role(e, role);
+    let after = decided.end;
+    if decided.answer == 0 {
         let settings = after.settings();
         let written = writer::write_loopback(settings.source, end::flags(after), command, out);
         return send(after, written);
     }
-    refuse(e, answer)
+    refuse(after, decided.answer)
 }
 
 // Starts a remote loopback.
 pub fn start(e: End, out: &mut [u8]) -> Outcome
     ensures { λ r. ⌜ (r ≡ requestOf (starting e) (length (now (out .entry))) e) × (now (out .exit) ≡ requestOutput (starting e) e (now (out .entry))) ⌝ }
 {
-    let settings = e.settings();
-    let peer = e.peer();
-    let held = peer.held;
-    let role = e.role();
-    let permitted = loopback::may_start(settings.configuration, held, role);
-    order(permitted, Role::Asking, 1, e, out)
+    order(end::grant_start(e, out.len()), 1, out)
 }
 
 // Stops a remote loopback.
 pub fn stop(e: End, out: &mut [u8]) -> Outcome
     ensures { λ r. ⌜ (r ≡ requestOf (stopping e) (length (now (out .entry))) e) × (now (out .exit) ≡ requestOutput (stopping e) e (now (out .entry))) ⌝ }
 {
-    let settings = e.settings();
-    let role = e.role();
-    let permitted = loopback::may_stop(settings.configuration, role);
-    order(permitted, Role::Ending, 2, e, out)
+    order(end::grant_stop(e, out.len()), 2, out)
 }
 
 // Asks for the peer's variables. A descriptor is one number, the branch above the leaf's sixteen bits.
@@ -65,19 +57,15 @@ pub fn request_variables(e: End, descriptors: &[u32], out: &mut [u8]) -> Outcome
 {
     let settings = e.settings();
     let octets = writer::request_octets(descriptors);
-    let answer = end::answer_to(
-        octets,
-        peer::is_active(settings.configuration),
-        out.len(),
-        e,
-    );
-    if answer == 0 {
-        let after = end::grant(e);
+    let permitted = peer::is_active(settings.configuration);
+    let decided = end::grant_frame(octets, permitted, out.len(), e);
+    let after = decided.end;
+    if decided.answer == 0 {
         let source = settings.source;
         let written = writer::write_request(source, end::flags(after), descriptors, out);
         return send(after, written);
     }
-    refuse(e, answer)
+    refuse(after, decided.answer)
 }
 
 // Notifies the peer of events, each seven numbers: its type and its six values.
@@ -87,9 +75,9 @@ pub fn notify(e: End, events: &[u64], out: &mut [u8]) -> Outcome
     let settings = e.settings();
     let own = e.own();
     let octets = writer::notification_octets(own.number, events);
-    let answer = end::answer_to(octets, true, out.len(), e);
-    if answer == 0 {
-        let after = end::grant_number(e);
+    let decided = end::grant_number(octets, out.len(), e);
+    let after = decided.end;
+    if decided.answer == 0 {
         let source = settings.source;
         let written = writer::write_notification(
             source,
@@ -100,7 +88,7 @@ pub fn notify(e: End, events: &[u64], out: &mut [u8]) -> Outcome
         );
         return send(after, written);
     }
-    refuse(e, answer)
+    refuse(after, decided.answer)
 }
 
 // Sends an organization's data with its OUI.
@@ -109,12 +97,12 @@ pub fn send_organization(e: End, oui: u32, octets: &[u8], out: &mut [u8]) -> Out
 {
     let settings = e.settings();
     let size = writer::organization_octets(oui, octets);
-    let answer = end::answer_to(size, true, out.len(), e);
-    if answer == 0 {
-        let after = end::grant(e);
+    let decided = end::grant_frame(size, true, out.len(), e);
+    let after = decided.end;
+    if decided.answer == 0 {
         let source = settings.source;
         let written = writer::write_organization(source, end::flags(after), oui, octets, out);
         return send(after, written);
     }
-    refuse(e, answer)
+    refuse(after, decided.answer)
 }

@@ -69,3 +69,12 @@ mayStart configuration peer role = bit 0 configuration && (peerLoopback peer && 
 
 unfoldable pub mayStop : ℕ → Role → Bool
 mayStop configuration role = bit 0 configuration && stops role
+
+-- the roles that an end's own settings allow: "a passive end" starts and stops nothing, so it does not ask, hold or end; without
+-- "own bit 2 set" it obeys no enable, so it does not loop
+abbrev pub roleFits : ℕ → Role → Bool
+roleFits configuration Idle = true
+roleFits configuration Asking = bit 0 configuration
+roleFits configuration Holding = bit 0 configuration
+roleFits configuration Ending = bit 0 configuration
+roleFits configuration Looping = bit 2 configuration

@@ -7,6 +7,7 @@ pub use loopback::is_obeyed;
 pub use loopback::may_start;
 pub use loopback::may_stop;
 pub use loopback::role_after_command;
+pub use loopback::role_fits;
 pub use roles::role_of;
 
 pub enum Role {

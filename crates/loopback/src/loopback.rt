@@ -1,6 +1,6 @@
 // Loopback: what a Local TLV and a command make of the role, and which requests the role, the mode and the peer allow.
 ghost use mathlib.Core.Path.{_≡_};
-ghost use Rattle.loopback.specs.Loopback.{answering, answered, takes, isLooping, obeys, commanded, starts, stops, mayStart, mayStop};
+ghost use Rattle.loopback.specs.Loopback.{answering, answered, takes, isLooping, obeys, commanded, starts, stops, mayStart, mayStop, roleFits};
 use crate::Role;
 use body::Held;
 
@@ -121,4 +121,17 @@ pub fn may_stop(configuration: u8, role: Role) -> bool
         return stops(role);
     }
     false
+}
+
+// Whether an end's own settings allow it a role.
+pub fn role_fits(configuration: u8, role: Role) -> bool
+    ensures { λ r. ⌜ r ≡ roleFits configuration role ⌝ }
+{
+    match role {
+        Role::Idle => true,
+        Role::Asking => peer::is_active(configuration),
+        Role::Holding => peer::is_active(configuration),
+        Role::Ending => peer::is_active(configuration),
+        Role::Looping => peer::is_loopback(configuration),
+    }
 }

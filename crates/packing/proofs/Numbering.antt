@@ -94,8 +94,8 @@ numbers-fit e h =
     let m = e .meter in
     let a = sound-is s (at 0) in
     let b : (n : ℕ) → n < 7 → _ = λ n k. fit-at informationWidths (informationValues i) n k k (told-fits (e .peer .held) (at 4)) in
-    let ticks = ltb-true (m .ticks) 10 (and-l (ltb (m .ticks) 10) (leb (m .written) 10) (at 8)) in
-    let written = leb-true (m .written) 10 (and-r (ltb (m .ticks) 10) (leb (m .written) 10) (at 8)) in
+    let ticks = ltb-true (m .ticks) 10 (and-l (ltb (m .ticks) 10) (leb (m .written) 10) (at 10)) in
+    let written = leb-true (m .written) 10 (and-r (ltb (m .ticks) 10) (leb (m .written) 10) (at 10)) in
     rw (
       lt-ltb (s .configuration) (256 ^ 1) (a .0),
       lt-ltb (s .size) (256 ^ 2) (a .1),
@@ -119,8 +119,8 @@ numbers-fit e h =
       role-fits (e .role),
       lt-ltb (m .ticks) (256 ^ 1) (omega (arith, ticks)),
       lt-ltb (m .written) (256 ^ 1) (omega (arith, written)),
-      at 9,
-      at 10,
+      at 11,
+      at 12,
       bit-fits (e .own .gasp),
       bit-fits (e .own .critical),
       bit-fits (e .own .owed),

@@ -23,7 +23,7 @@ use Rattle.end.specs.declared.Shown.the-variants.{Nothing}
 use Rattle.end.specs.declared.Action.{Action}
 use Rattle.end.specs.declared.Action.the-variants.{Inform, Notify, Command, Other}
 use Rattle.end.specs.declared.Heard.{Heard}
-use Rattle.link.specs.declared.hearing.Said.the-variants.{Is as SaidIs}
+use Rattle.end.specs.declared.Said.the-variants.{Is as SaidIs}
 use Rattle.end.specs.declared.Taken.{Taken}
 use Rattle.end.specs.Sending.{dues}
 use Rattle.link.specs.Outcomes.{outcome, lengthOf, concluded, concludedOutput}
@@ -31,9 +31,10 @@ use Rattle.end.specs.Ticking.{ticked, tickedDue}
 use Rattle.link.specs.Ticks.{tickOf, tickOutput}
 use Rattle.end.specs.Reporting.{reported, reportedDue}
 use Rattle.link.specs.Reports.{reportOf, reportOutput}
-use Rattle.end.specs.Taking.{heardOf, taken, takenDue}
-use Rattle.link.specs.Hearing.{saidBy, concludedHeard, concludedHeardOutput, receiveOf, receiveOutput}
-use Rattle.end.specs.Granting.{answerTo, granted}
+use Rattle.end.specs.Hearing.{heardOf, saidBy}
+use Rattle.end.specs.Taking.{taken, takenDue}
+use Rattle.link.specs.Hearing.{concludedHeard, concludedHeardOutput, receiveOf, receiveOutput}
+use Rattle.end.specs.Granting.{answerTo, granted, decided}
 use Rattle.link.specs.Requests.{requestToSend, concludedRequest, concludedRequestOutput, asks, asksOutput}
 use Rattle.reach.specs.Machine.{Request, Input, tick, report, receive, request as asking, Call, askedOf, outcomeOf, outputOf}
 use Rattle.reach.proofs.Bools.{whether}
@@ -60,7 +61,7 @@ abbrev pub heardIn : Message → Heard
 heardIn m =
     heardOf (record { source = m .source; flags = m .flags; code = codeOf (m .body) }) (localIn (m .body)) (actionIn (m .body))
 
-said-is : (source flags : ℕ) (b : Body)
+pub said-is : (source flags : ℕ) (b : Body)
     → saidBy (readingOf (accepted (record { source = source; flags = flags; body = b })))
     ≡ SaidIs (heardIn (record { source = source; flags = flags; body = b }))
 said-is source flags (information ps) = refl
@@ -149,12 +150,12 @@ module _ (out : List ℕ) (e : End) where
           (record { made = _; how = hears f m d; room = ltb-false (length out) 60 n; outcome = rw (n, d, s); output = rw (n, d, s) })
 
   comes-request : (q : Request) → Comes (lent (asking q)) e
-  unfolding asks asksOutput concludedRequest concludedRequestOutput
+  unfolding asks asksOutput concludedRequest concludedRequestOutput decided
   comes-request q =
       let a = askedOf q e in
       let n : ℕ = answerTo (sized (a .body)) (a .permitted) (length out) e in
       whether (eqb n 0)
-      (λ t. grants (record { asked = q; how = refl; answer = eqb-true n 0 t; outcome = rw t; output = rw t }))
+      (λ t. let z = eqb-true n 0 t in grants (record { asked = q; how = refl; answer = z; outcome = rw z; output = rw z }))
       (λ f. refuses (record { number = n; some = eqb-false n 0 f; outcome = rw f; output = rw f }))
 
   comes-by : (i : Input) → Comes (lent i) e

@@ -5,12 +5,13 @@ use mathlib.Core.Path.{_≡_, refl, sym, ap, _∙_}
 use mathlib.Core.List.{List, [], _∷_}
 use mathlib.Core.Bool.{Bool, true, false, cond, _&&_}
 use native.Mathlib.Omega.{arith}
-use borrow.Author.Tests.{leb-true, leb-false, lt-ltb, eq-eqb, ne-eqb}
+use borrow.Author.Tests.{leb-true, leb-false, eq-eqb, ne-eqb}
 use lib.Dec.{leb, eqb}
 use lib.ListN.{length}
 use Rattle.tlvs.proofs.Walks.{by-cond}
+use Rattle.writer.proofs.Bools.{and-r}
 use Rattle.writer.proofs.Sizes.{encode-length}
-use Rattle.limit.specs.Limit.{chargedMeter, closing, turnedMeter}
+use Rattle.limit.specs.Limit.{room, chargedMeter, closing, turnedMeter}
 use Rattle.limit.specs.declared.Meter.{Meter}
 use Rattle.peer.specs.declared.Settings.{Settings}
 use Rattle.end.specs.declared.End.{End}
@@ -25,9 +26,10 @@ use Rattle.reach.specs.Seconds.{Entry, count, ticksIn, framesIn}
 use Rattle.reach.specs.Premises.{Accepted, OfOctets, AllOfOctets}
 use Rattle.reach.proofs.Bools.{whether}
 use Rattle.reach.proofs.Coming.{noted, Concludes, Comes, refuses, concludes, grants, comes}
-use Rattle.reach.proofs.Standing.{Bounded, Ranged, ranged-is}
-use Rattle.reach.proofs.Keeping.{InputFits, octets-fit, turned-bounded}
+use Rattle.reach.proofs.Standing.{Ranged, ranged-is}
+use Rattle.reach.proofs.Keeping.{InputFits, octets-fit}
 use Rattle.reach.proofs.Staying.{Lasting, meterBy, made-stays, asked-stays}
+use Rattle.reach.proofs.Passing.{passes-grant}
 use Rattle.reach.proofs.Ranging.{run-is}
 use Rattle.reach.proofs.Framing.{Silent, Writes, sent-outcome, kept-outcome, sends-writes, sends-none, grants-writes}
 
@@ -35,9 +37,19 @@ use Rattle.reach.proofs.Framing.{Silent, Writes, sent-outcome, kept-out
 abbrev pub opened : Call → End → Meter
 opened c e = cond (acceptedTick c e) (turnedMeter (e .meter)) (e .meter)
 
+-- a frame more, or none
+abbrev pub counted : Bool → Meter → Meter
+counted true m = record { ticks = m .ticks; written = m .written + 1 }
+counted false m = m
+
 -- and leaves: a written frame is counted
 abbrev pub Metered : Call → End → Type 0
-Metered c e = outcomeOf c e .end .meter ≡ cond (wrote c e) (chargedMeter (opened c e)) (opened c e)
+Metered c e = outcomeOf c e .end .meter ≡ counted (wrote c e) (opened c e)
+
+-- where there is room
+charged-counts : (m : Meter) → room m ≡ true → chargedMeter m ≡ counted true m
+unfolding chargedMeter
+charged-counts m h = rw h
 
 -- ---- whether a frame was written
 
@@ -74,7 +86,7 @@ unfolding dues
 noted-meter c e h = ap (λ (k : Lasting). k .meter) (made-stays e (c .input) (h .made) (h .how))
 
 by-comes : (c : Call) (e : End) → InputFits (c .input) → Ranged e → Comes c e → Metered c e
-unfolding sent granted dues
+unfolding sends sent granted dues
 by-comes c e o r (refuses h) =
     let same = opened-refused c e (λ z. h .some (sym (ap (λ (k : Outcome). k .answer) (h .outcome)) ∙ z)) in
     ap (λ (k : Outcome). k .end .meter) (h .outcome) ∙ same ∙ rw (ap (λ (k : Outcome). k .length) (h .outcome))
@@ -84,7 +96,8 @@ by-comes c e o r (concludes h) =
     let x = sent-outcome c e h t in
     let m = noted-meter c e h ∙ opened-by c e (ap (λ (k : Outcome). k .answer) x) in
     let w = writes-wrote c e (sends-writes c e h t o r) in
-    rw w (ap (λ (k : Outcome). k .end .meter) x ∙ ap chargedMeter m))
+    let has : room (opened c e) ≡ true = rw (← m) (and-r (noted e (h .made) .own .owed) (room (noted e (h .made) .meter)) t) in
+    rw w (ap (λ (k : Outcome). k .end .meter) x ∙ ap chargedMeter m ∙ charged-counts (opened c e) has))
     (λ f.
     let x = kept-outcome c e h f in
     let m = noted-meter c e h ∙ opened-by c e (ap (λ (k : Outcome). k .answer) x) in
@@ -94,7 +107,9 @@ by-comes c e o r (grants h) =
     let m = opened-by c e (ap (λ (k : Outcome). k .answer) (h .outcome)) in
     let w = writes-wrote c e (grants-writes c e r h) in
     let same = ap (λ (k : Lasting). k .meter) (asked-stays (h .asked) e) in
-    rw w (ap (λ (k : Outcome). k .end .meter) (h .outcome) ∙ ap chargedMeter (same ∙ ap (λ (i : Input). meterBy i (e .meter)) (sym (h .how)) ∙ m))
+    let found : e .meter ≡ opened c e = ap (λ (i : Input). meterBy i (e .meter)) (sym (h .how)) ∙ m in
+    let has : room (opened c e) ≡ true = rw (← found) (passes-grant h .roomy) in
+    rw w (ap (λ (k : Outcome). k .end .meter) (h .outcome) ∙ ap chargedMeter (same ∙ found) ∙ charged-counts (opened c e) has)
 
 pub call-meter : (c : Call) (e : End) → OfOctets (c .input) → ranged e ≡ true → Metered c e
 call-meter c e o r = by-comes c e (octets-fit (c .input) o) (ranged-is e r) (comes c e)
@@ -108,27 +123,21 @@ module _ (m : Meter) where
   turned-written true = by-cond (λ (k : Meter). k .written ≡ cond (closing m) 0 (m .written)) (closing m) (λ t. rw t) (λ f. rw f)
   turned-written false = refl
 
-  may-turn-bounded : (b : Bool) → Bounded m → Bounded (cond b (turnedMeter m) m)
-  may-turn-bounded b h = by-cond Bounded b (λ _. turned-bounded m h) (λ _. h)
-
   -- a frame that may be counted
-  charged-written : (b : Bool) → m .written ≤ 10 → cond b (chargedMeter m) m .written ≡ m .written + count b
-  unfolding chargedMeter
-  charged-written true h = rw (lt-ltb (m .written) 255 (omega arith))
-  charged-written false h = omega arith
+  counted-written : (b : Bool) → counted b m .written ≡ m .written + count b
+  counted-written true = refl
+  counted-written false = omega arith
 
-  charged-ticks : (b : Bool) → cond b (chargedMeter m) m .ticks ≡ m .ticks
-  unfolding chargedMeter
-  charged-ticks true = refl
-  charged-ticks false = refl
+  counted-ticks : (b : Bool) → counted b m .ticks ≡ m .ticks
+  counted-ticks true = refl
+  counted-ticks false = refl
 
 -- the written-frames number after a call: none if it is a tick that closes a second, else what it was, and the call's own frame
 pub call-counts : (c : Call) (e : End) → OfOctets (c .input) → ranged e ≡ true
     → outcomeOf c e .end .meter .written ≡ cond (acceptedTick c e && closing (e .meter)) 0 (e .meter .written) + count (wrote c e)
 call-counts c e o r =
-    let few = may-turn-bounded (e .meter) (acceptedTick c e) (ranged-is e r .stands .meter) .written in
     ap (λ (k : Meter). k .written) (call-meter c e o r)
-    ∙ charged-written (opened c e) (wrote c e) few
+    ∙ counted-written (opened c e) (wrote c e)
     ∙ ap (λ (k : ℕ). k + count (wrote c e)) (turned-written (e .meter) (acceptedTick c e))
 
 -- ---- the history
@@ -165,12 +174,11 @@ module _ (m : Meter) (xs : List Entry) (a : Agrees m xs) where
 pub keeps-agrees : (c : Call) (e : End) → InputFits (c .input) → Ranged e → (xs : List Entry) → Agrees (e .meter) xs
     → Agrees (outcomeOf c e .end .meter) (entryOf c e ∷ xs)
 keeps-agrees c e o r xs a =
-    let few = may-turn-bounded (e .meter) (acceptedTick c e) (r .stands .meter) .written in
     let m = by-comes c e o r (comes c e) in
     record {
-      ticks = ap (λ (k : Meter). k .ticks) m ∙ charged-ticks (opened c e) (wrote c e) ∙ may-turn-ticks (e .meter) xs a (acceptedTick c e);
+      ticks = ap (λ (k : Meter). k .ticks) m ∙ counted-ticks (opened c e) (wrote c e) ∙ may-turn-ticks (e .meter) xs a (acceptedTick c e);
       written = ap (λ (k : Meter). k .written) m
-          ∙ charged-written (opened c e) (wrote c e) few
+          ∙ counted-written (opened c e) (wrote c e)
           ∙ ap (λ (k : ℕ). k + count (wrote c e)) (may-turn-written (e .meter) xs a (acceptedTick c e));
     }
 

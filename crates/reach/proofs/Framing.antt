@@ -178,7 +178,7 @@ module _ (c : Call) (e : End) (r : Ranged e) (h : Grants c e) where
   unfolding requestToSend
   grants-writes =
       let p = request-passes in
-      let s = asked-ranged (h .asked) e (p .any) (p .roomy) r .stands in
+      let s = asked-ranged (h .asked) e (p .any) (p .permitted) r .stands in
       writes-it (requestToSend request-body request-end) (message-plain request-end request-body s (sized-is-plain request-body (p .formed))) c e
       request-meant (rw request-sized (p .long)) (ap (λ (k : Outcome). k .length) (h .outcome)) (h .output)
 

@@ -2,7 +2,7 @@
 use Prim.Native.Nat.{ℕ, _^_, _<_, _≤_, _/_, _%_}
 use mathlib.Core.Path.{_≡_, refl}
 use mathlib.Core.List.{List, [], _∷_}
-use mathlib.Core.Bool.{true}
+use mathlib.Core.Bool.{true, _||_, or-true}
 use native.Mathlib.Omega.{arith}
 use borrow.Author.Tests.{eqb-false, ltb-true, lt-ltb}
 use lib.Dec.{ltb, eqb}
@@ -17,12 +17,13 @@ use Rattle.writer.specs.Plain.{every, plainBody}
 use Rattle.writer.proofs.Bools.{and-l, and-r}
 use Rattle.writer.proofs.Informing.{fitPart, plain-parts}
 use Rattle.writer.proofs.Fitting.{FitsBody, shown-fits}
-use Rattle.peer.specs.Peers.{keptFrom, recordFrom}
+use Rattle.peer.specs.Peers.{held, keptFrom, recordFrom}
 use Rattle.end.specs.declared.Last.{Last}
+use Rattle.end.specs.declared.Peer.{Peer}
 use Rattle.end.specs.declared.Action.{Action}
 use Rattle.end.specs.declared.Action.the-variants.{Inform, Notify, Command, Other}
 use Rattle.end.specs.Taking.{lastAfter}
-use Rattle.end.specs.Ranges.{heldFits, lastFits}
+use Rattle.end.specs.Ranges.{heldFits, lastFits, never, besides}
 use Rattle.reach.proofs.Coming.{localIn, actionIn}
 
 -- the number of a notification is one of two octets
@@ -82,6 +83,10 @@ kept-fits flags kept h =
 pub record-fits : (local held : Held) → heldFits local ≡ true → heldFits held ≡ true → heldFits (recordFrom local held) ≡ true
 record-fits Nothing held l h = h
 record-fits (Is i) held l h = l
+
+pub record-beside : (local : Held) (p : Peer) → besides p ≡ true → never (p .last) || held (recordFrom local (p .held)) ≡ true
+record-beside Nothing p h = h
+record-beside (Is i) p h = or-true (never (p .last))
 
 pub last-fits : (a : Action) (last : Last) → Numbered a → lastFits last ≡ true → lastFits (lastAfter a last) ≡ true
 unfolding lastFits

@@ -1,7 +1,7 @@
 -- What each call makes of an end stands as that end stood: block by block.
 use Prim.Native.Nat.{_<_}
 use mathlib.Core.Path.{_≡_, refl, _∙_}
-use mathlib.Core.Bool.{Bool, true, false}
+use mathlib.Core.Bool.{Bool, true, false, cond, or-true}
 use native.Mathlib.Omega.{arith}
 use borrow.Author.Tests.{leb-false}
 use lib.Dec.{leb}
@@ -9,6 +9,8 @@ use Rattle.frame.specs.Frame.{Message, accepted, decode}
 use Rattle.tlvs.proofs.Walks.{by-cond}
 use Rattle.discovery.specs.Standing.{isAny, roleIn}
 use Rattle.limit.specs.Limit.{closing, turnedMeter}
+use Rattle.peer.specs.Bits.{bit}
+use Rattle.peer.specs.Peers.{held}
 use Rattle.discovery.specs.declared.Discovery.{Discovery}
 use Rattle.discovery.specs.declared.Discovery.the-variants.{Fault, ActiveSendLocal, PassiveWait, SendLocalRemote, SendLocalRemoteOk, SendAny}
 use Rattle.loopback.specs.declared.Role.{Role}
@@ -22,14 +24,14 @@ use Rattle.end.specs.declared.Taken.{Taken}
 use Rattle.end.specs.State.{withLink, noPeer, discoveryOf, inAny, faulted, settled}
 use Rattle.end.specs.Ticking.{missed, ticked}
 use Rattle.end.specs.Reporting.{linkUp, linkDown, reported}
-use Rattle.end.specs.Taking.{learned, acted, takenUp, taken}
-use Rattle.end.specs.Ranges.{heldFits, lastFits, idle, blank}
+use Rattle.end.specs.Taking.{learned, lastAfter, acted, takenUp, taken}
+use Rattle.end.specs.Ranges.{heldFits, lastFits, never, idle, blank}
 use Rattle.reach.specs.Machine.{Input, tick, report, receive, request}
 use Rattle.reach.specs.Premises.{OfOctets}
-use Rattle.reach.proofs.Bools.{not-both}
+use Rattle.reach.proofs.Bools.{not-both, whether}
 use Rattle.reach.proofs.Coming.{localIn, actionIn, heardIn, Made, ticks, reports, hears}
 use Rattle.reach.proofs.Standing.{Fitting, Bounded, relinked, remetered, Stands, Rests}
-use Rattle.reach.proofs.Hearing.{HeardFits, heard-fits, kept-fits, record-fits, last-fits}
+use Rattle.reach.proofs.Hearing.{HeardFits, heard-fits, kept-fits, record-fits, record-beside, last-fits}
 
 -- ---- the moves
 
@@ -51,10 +53,20 @@ pub down-any : (e : End) → e .link .up ≡ false → inAny e ≡ false
 unfolding inAny discoveryOf
 down-any e h = rw h
 
+-- in SEND_ANY a record is held
+any-held : (e : End) → inAny e ≡ true → held (e .peer .held) ≡ true
+unfolding inAny discoveryOf
+any-held e h = whether (held (e .peer .held)) (λ t. t) (λ f. by (e .link .up) (bit 0 (e .settings .configuration)) (rw f at h))
+  where
+    by : (up active : Bool) → isAny (cond up (cond active ActiveSendLocal PassiveWait) Fault) ≡ true → held (e .peer .held) ≡ true
+    by true true h = not-both h refl
+    by true false h = not-both h refl
+    by false active h = not-both h refl
+
 -- FAULT clears what is kept of the peer
 no-peer-fits : Fitting noPeer
 unfolding heldFits lastFits
-no-peer-fits = record { kept = omega arith; held = refl; last = refl }
+no-peer-fits = record { kept = omega arith; held = refl; last = refl; beside = refl }
 
 fault-stands : (e : End) → Stands e → (l : Link) → l .lost < 50 → Stands (withLink l (faulted e))
 unfolding faulted blank
@@ -126,17 +138,19 @@ module _ (m : Message) (h : HeardFits (m .body)) (e : End) (s : Stands e) where
         kept = kept-fits (m .flags) (e .peer .kept) (s .peer .kept);
         held = record-fits (localIn (m .body)) (e .peer .held) (h .local) (s .peer .held);
         last = s .peer .last;
+        beside = record-beside (localIn (m .body)) (e .peer) (s .peer .beside);
       })
       (λ z. not-both up z)
 
-  acted-stands : (b : Bool) (x : End) → x .link .up ≡ true → Stands x → Stands (acted (heardIn m) b x)
+  acted-stands : (b : Bool) (x : End) → x .link .up ≡ true → inAny x ≡ true → Stands x → Stands (acted (heardIn m) b x)
   unfolding acted
-  acted-stands b x up t =
+  acted-stands b x up any t =
       relinked t (t .lost)
       (record {
         kept = t .peer .kept;
         held = t .peer .held;
         last = last-fits (actionIn (m .body)) (x .peer .last) (h .number) (t .peer .last);
+        beside = rw (any-held x any) (or-true (never (lastAfter (actionIn (m .body)) (x .peer .last))));
       })
       (λ z. not-both up z)
 
@@ -147,7 +161,7 @@ module _ (m : Message) (h : HeardFits (m .body)) (e : End) (s : Stands e) where
   taken-stands : Stands (taken (heardIn m) e .end)
   taken-stands =
       by-taken (heardIn m) e Stands (λ _. s) (λ up _. learned-stands up)
-      (λ up _ b. acted-stands b (learned (heardIn m) e) (learned-up ∙ up) (learned-stands up))
+      (λ up any b. acted-stands b (learned (heardIn m) e) (learned-up ∙ up) any (learned-stands up))
 
 taken-rests : (m : Message) (e : End) → Rests e → Rests (taken (heardIn m) e .end)
 unfolding learned acted inAny discoveryOf

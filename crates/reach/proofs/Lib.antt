@@ -5,7 +5,9 @@ pub mod Hearing
 pub mod Keeping
 pub mod Staying
 pub mod Passing
+pub mod Roles
 pub mod Ranging
+pub mod Guarding
 pub mod Refusing
 pub mod Plainly
 pub mod Framing

@@ -1,8 +1,9 @@
 -- Every end that calls make of a fresh one is ranged: the lost-link count stays below 50, a second has at most ten ticks and
--- ten frames, the kept field is at most 2, a role other than Idle stands in SEND_ANY, nothing is owed where it is not allowed,
--- with the link down no peer record is held, and every number fits its octets.
+-- ten frames, the kept field is at most 2, a last event number is kept only beside a record, a role other than Idle stands in
+-- SEND_ANY and is one that the settings allow, nothing is owed where it is not allowed, with the link down no peer record is
+-- held, and every number fits its octets.
 use Prim.Native.Nat.{ℕ, _^_, _<_, _≤_}
-use mathlib.Core.Path.{_≡_, refl, sym, ap, _∙_}
+use mathlib.Core.Path.{_≡_, refl, sym, ap, subst, _∙_}
 use mathlib.Core.List.{List, [], _∷_}
 use mathlib.Core.Bool.{Bool, true, false}
 use native.Mathlib.Omega.{arith}
@@ -10,9 +11,10 @@ use borrow.Author.Tests.{ltb-true}
 use lib.Dec.{ltb}
 use lib.ListN.{length}
 use Rattle.tlvs.proofs.Walks.{by-cond}
-use Rattle.writer.proofs.Bools.{never, and-l, and-r}
+use Rattle.writer.proofs.Bools.{never, and-l}
 use Rattle.limit.specs.Limit.{room, chargedMeter}
 use Rattle.limit.specs.Owing.{following}
+use Rattle.loopback.specs.Loopback.{roleFits}
 use Rattle.limit.specs.declared.Meter.{Meter}
 use Rattle.peer.specs.declared.Settings.{Settings}
 use Rattle.end.specs.declared.End.{End}
@@ -29,9 +31,10 @@ use Rattle.reach.specs.Runs.{after}
 use Rattle.reach.specs.Premises.{Accepted, OfOctets, AllOfOctets}
 use Rattle.reach.proofs.Bools.{not-both, whether}
 use Rattle.reach.proofs.Coming.{Made, noted, Comes, refuses, concludes, grants, comes}
-use Rattle.reach.proofs.Standing.{Bounded, remetered, renumbered, Stands, Rests, Ranged, ranged-is, is-ranged, fresh-is}
+use Rattle.reach.proofs.Standing.{Bounded, remetered, renumbered, Stands, Rests, Fits, Ranged, ranged-is, is-ranged, fresh-is}
 use Rattle.reach.proofs.Keeping.{InputFits, octets-fit, made-stands, made-rests}
-use Rattle.reach.proofs.Staying.{Lasting, asked-stays}
+use Rattle.reach.proofs.Staying.{run-settings}
+use Rattle.reach.proofs.Roles.{made-fits, asked-fits}
 use Rattle.reach.proofs.Passing.{passes-grant}
 
 -- ---- the revision, and what is owed
@@ -39,41 +42,42 @@ use Rattle.reach.proofs.Passing.{passes-grant}
 wraps : (n : ℕ) → following n < 2 ^ 16
 wraps n = omega arith
 
-dues-ranged : (before : End) (due : Bool) (e : End) → Stands e → Rests e → Ranged (dues before due e)
+dues-ranged : (before : End) (due : Bool) (e : End) → Stands e → Rests e → Fits e → Ranged (dues before due e)
 unfolding dues inAny allowed discoveryOf faultOf
-dues-ranged before due e s r =
+dues-ranged before due e s r f =
     let n = e .own .revision in
     record {
       stands = renumbered s
           (by-cond (λ (k : ℕ). k < 2 ^ 16) (octetChanged (before .role) (e .role)) (λ _. wraps n) (λ _. s .revision)) (s .number);
       rests = r;
+      fits = f;
       owes = λ h. and-l (allowed e) _ h;
     }
 
 -- ---- a frame is written
 
-pub charged-bounded : (m : Meter) → room m ≡ true → Bounded m → Bounded (chargedMeter m)
+pub charged-bounded : (m : Meter) → Bounded m → Bounded (chargedMeter m)
 unfolding room chargedMeter
-charged-bounded m h b =
-    let few = ltb-true (m .written) 10 h in
+charged-bounded m b =
     record {
       ticks = b .ticks;
-      written = by-cond (λ (k : ℕ). k ≤ 10) (ltb (m .written) 255) (λ _. omega arith) (λ _. b .written);
+      written = by-cond (λ (k : ℕ). k ≤ 10) (ltb (m .written) 10) (λ t. omega (arith, ltb-true (m .written) 10 t)) (λ _. b .written);
     }
 
-sent-ranged : (e : End) → sends e ≡ true → Ranged e → Ranged (sent e)
-unfolding sends sent inAny discoveryOf
-sent-ranged e h r =
+pub sent-ranged : (e : End) → Ranged e → Ranged (sent e)
+unfolding sent inAny discoveryOf
+sent-ranged e r =
     record {
-      stands = remetered (r .stands) (charged-bounded (e .meter) (and-r (e .own .owed) (room (e .meter)) h) (r .stands .meter));
+      stands = remetered (r .stands) (charged-bounded (e .meter) (r .stands .meter));
       rests = r .rests;
+      fits = r .fits;
       owes = λ z. never z;
     }
 
 concluded-ranged : (octets : ℕ) (shown : Shown) (e : End) → Ranged e → Ranged (concluded octets shown e .end)
 unfolding concluded
 concluded-ranged octets shown e r =
-    by-cond (λ (o : Outcome). Ranged (o .end)) (sends e) (λ t. sent-ranged e t r) (λ _. r)
+    by-cond (λ (o : Outcome). Ranged (o .end)) (sends e) (λ _. sent-ranged e r) (λ _. r)
 
 -- ---- requests
 
@@ -92,12 +96,13 @@ asked-any (variables ds) e = refl
 asked-any (notify vs) e = refl
 asked-any (tell oui x) e = refl
 
-granted-ranged : (before e : End) → room (e .meter) ≡ true → Ranged (dues before false e) → Ranged (granted before e)
+granted-ranged : (before e : End) → Ranged (dues before false e) → Ranged (granted before e)
 unfolding granted dues inAny allowed discoveryOf faultOf
-granted-ranged before e h r =
+granted-ranged before e r =
     record {
-      stands = remetered (r .stands) (charged-bounded (e .meter) h (r .stands .meter));
+      stands = remetered (r .stands) (charged-bounded (e .meter) (r .stands .meter));
       rests = r .rests;
+      fits = r .fits;
       owes = r .owes;
     }
 
@@ -105,14 +110,15 @@ granted-ranged before e h r =
 
 -- what a tick, a report or an accepted frame comes to before its frame is written
 pub noted-ranged : (e : End) (i : Input) (t : Taken) → Made e i t → InputFits i → Ranged e → Ranged (noted e t)
-noted-ranged e i t h o r = dues-ranged e (t .due) (t .end) (made-stands e i t h o (r .stands)) (made-rests e i t h (r .rests))
+noted-ranged e i t h o r =
+    dues-ranged e (t .due) (t .end) (made-stands e i t h o (r .stands)) (made-rests e i t h (r .rests)) (made-fits e i t h (r .fits))
 
 -- what a granted request comes to
-pub asked-ranged : (q : Request) (e : End) → inAny e ≡ true → room (e .meter) ≡ true → Ranged e → Ranged (granted e (askedOf q e .next))
-asked-ranged q e any roomy r =
+pub asked-ranged : (q : Request) (e : End) → inAny e ≡ true → askedOf q e .permitted ≡ true → Ranged e → Ranged (granted e (askedOf q e .next))
+asked-ranged q e any permitted r =
     let x = askedOf q e .next in
-    granted-ranged e x (rw (ap (λ (k : Lasting). k .meter) (asked-stays q e)) roomy)
-    (dues-ranged e false x (asked-stands q e (r .stands)) (λ n. not-both any (sym (asked-any q e) ∙ n)))
+    granted-ranged e x
+    (dues-ranged e false x (asked-stands q e (r .stands)) (λ n. not-both any (sym (asked-any q e) ∙ n)) (asked-fits q e permitted (r .fits)))
 
 by-comes : (c : Call) (e : End) → InputFits (c .input) → Ranged e → Comes c e → Ranged (outcomeOf c e .end)
 by-comes c e o r (refuses h) = rw (h .outcome) r
@@ -121,7 +127,7 @@ by-comes c e o r (concludes h) =
     (concluded-ranged (length (c .out)) (h .made .shown) (noted e (h .made)) (noted-ranged e (c .input) (h .made) (h .how) o r))
 by-comes c e o r (grants h) =
     let p = passes-grant h in
-    rw (h .outcome) (asked-ranged (h .asked) e (p .any) (p .roomy) r)
+    rw (h .outcome) (asked-ranged (h .asked) e (p .any) (p .permitted) r)
 
 -- a call keeps it
 pub keeps-ranged : (c : Call) (e : End) → InputFits (c .input) → Ranged e → Ranged (outcomeOf c e .end)
@@ -137,6 +143,11 @@ run-is s a (c ∷ cs) o = keeps-ranged c (after s cs) (octets-fit (c .input) (o 
 
 pub run-ranged : (s : Settings) → Accepted s → (cs : List Call) → AllOfOctets cs → ranged (after s cs) ≡ true
 run-ranged s a cs o = is-ranged (after s cs) (run-is s a cs o)
+
+-- an end without own bit 2 never loops, and "a passive end" never asks, holds or ends
+pub run-fits : (s : Settings) → Accepted s → (cs : List Call) → AllOfOctets cs → roleFits (s .configuration) (after s cs .role) ≡ true
+run-fits s a cs o =
+    subst (λ (x : Settings). roleFits (x .configuration) (after s cs .role) ≡ true) (run-settings s cs) (ranged-is (after s cs) (run-ranged s a cs o) .fits)
 
 -- a role other than Idle stands in SEND_ANY
 pub busy-any : (e : End) → ranged e ≡ true → idle (e .role) ≡ false → inAny e ≡ true

@@ -7,6 +7,7 @@ use borrow.Author.Tests.{ltb-true, leb-true, lt-ltb, le-leb}
 use lib.Dec.{ltb, leb}
 use Rattle.peer.specs.Ranges.{sound}
 use Rattle.limit.specs.Limit.{bounded}
+use Rattle.loopback.specs.Loopback.{roleFits}
 use Rattle.peer.specs.declared.Settings.{Settings}
 use Rattle.limit.specs.declared.Meter.{Meter}
 use Rattle.writer.proofs.Bools.{never, and-l, and-r}
@@ -16,18 +17,19 @@ use Rattle.end.specs.declared.End.{End}
 use Rattle.end.specs.declared.FreshEnd.the-variants.{Refused, Is}
 use Rattle.end.specs.State.{freshEnd, freshOf, inAny}
 use Rattle.end.specs.Sending.{allowed}
-use Rattle.end.specs.Ranges.{tests, heldFits, lastFits, idle, blank, ranged}
+use Rattle.end.specs.Ranges.{tests, heldFits, lastFits, idle, blank, besides, ranged}
 use Rattle.end.proofs.Ranging.{all-at}
 use Rattle.reach.specs.Premises.{Accepted}
 use Rattle.reach.proofs.Bools.{or-l, or-r, implies, is-or-l, is-or-r, is-implied}
 
 -- ---- the parts
 
--- the kept field is at most 2; the record and the event number fit their octets
+-- the kept field is at most 2; the record and the event number fit their octets, and the one is kept only beside the other
 pub record Fitting (p : Peer) : Type 0 where
   pub kept : p .kept ≤ 2
   pub held : heldFits (p .held) ≡ true
   pub last : lastFits (p .last) ≡ true
+  pub beside : besides p ≡ true
 
 -- a second has ten ticks and at most ten frames
 pub record Bounded (m : Meter) : Type 0 where
@@ -63,6 +65,10 @@ Stands e = Standing (e .settings) (e .link) (e .peer) (e .meter) (e .own .revisi
 abbrev pub Rests : End → Type 0
 Rests e = inAny e ≡ false → idle (e .role) ≡ true
 
+-- the settings allow the role
+abbrev pub Fits : End → Type 0
+Fits e = roleFits (e .settings .configuration) (e .role) ≡ true
+
 -- "Where it isn't allowed nothing is owed."
 abbrev pub Owes : End → Type 0
 Owes e = e .own .owed ≡ true → allowed e ≡ true
@@ -70,6 +76,7 @@ Owes e = e .own .owed ≡ true → allowed e ≡ true
 pub record Ranged (e : End) : Type 0 where
   pub stands : Stands e
   pub rests : Rests e
+  pub fits : Fits e
   pub owes : Owes e
 
 -- ---- as tests
@@ -94,14 +101,15 @@ ranged-is e h =
       stands = record {
         settings = record { sound = at 0; vendor = ltb-true (e .settings .vendor) (2 ^ 32) (at 1) };
         lost = ltb-true (e .link .lost) 50 (at 2);
-        peer = record { kept = leb-true (e .peer .kept) 2 (at 3); held = at 4; last = at 5 };
-        down = or-r (e .link .up) (blank (e .peer)) (at 6);
-        meter = bounded-is (e .meter) (at 8);
-        revision = ltb-true (e .own .revision) (2 ^ 16) (at 9);
-        number = ltb-true (e .own .number) (2 ^ 16) (at 10);
+        peer = record { kept = leb-true (e .peer .kept) 2 (at 3); held = at 4; last = at 5; beside = at 6 };
+        down = or-r (e .link .up) (blank (e .peer)) (at 7);
+        meter = bounded-is (e .meter) (at 10);
+        revision = ltb-true (e .own .revision) (2 ^ 16) (at 11);
+        number = ltb-true (e .own .number) (2 ^ 16) (at 12);
       };
-      rests = or-l (idle (e .role)) (inAny e) (at 7);
-      owes = implies (e .own .owed) (allowed e) (at 11);
+      rests = or-l (idle (e .role)) (inAny e) (at 8);
+      fits = at 9;
+      owes = implies (e .own .owed) (allowed e) (at 13);
     }
 
 pub is-ranged : (e : End) → Ranged e → ranged e ≡ true
@@ -115,8 +123,10 @@ is-ranged e r =
       le-leb (e .peer .kept) 2 (s .peer .kept),
       s .peer .held,
       s .peer .last,
+      s .peer .beside,
       is-or-r (e .link .up) (blank (e .peer)) (s .down),
       is-or-l (idle (e .role)) (inAny e) (r .rests),
+      r .fits,
       is-bounded (e .meter) (s .meter),
       lt-ltb (e .own .revision) (2 ^ 16) (s .revision),
       lt-ltb (e .own .number) (2 ^ 16) (s .number),
@@ -132,13 +142,14 @@ fresh-is s a =
       stands = record {
         settings = a;
         lost = omega arith;
-        peer = record { kept = omega arith; held = refl; last = refl };
+        peer = record { kept = omega arith; held = refl; last = refl; beside = refl };
         down = λ _. refl;
         meter = record { ticks = omega arith; written = omega arith };
         revision = omega arith;
         number = omega arith;
       };
       rests = λ _. refl;
+      fits = refl;
       owes = λ h. never h;
     }
 

@@ -17,7 +17,7 @@ use Rattle.end.specs.declared.End.{End}
 use Rattle.link.specs.declared.Outcome.{Outcome}
 use Rattle.end.specs.State.{discoveryOf, inAny}
 use Rattle.end.specs.Sending.{faultOf, flagsToSend, allowed, changed, dues, sends, sent}
-use Rattle.end.specs.Granting.{answerTo}
+use Rattle.end.specs.Granting.{answerTo, decided}
 use Rattle.link.specs.Requests.{concludedRequest, asks}
 use Rattle.reach.specs.Machine.{Request, request, Input, Call, askedOf, outcomeOf}
 use Rattle.reach.proofs.Bools.{not-both, whether}
@@ -88,6 +88,6 @@ pub eleventh-13 : (q : Request) (out : List ℕ) (e : End)
     → fitsBoth (sized (askedOf q e .body)) (e .settings .size) (peerMaximum (e .peer .held)) ≡ true
     → 10 ≤ e .meter .written
     → outcomeOf (record { input = request q; out = out }) e .answer ≡ 13
-unfolding asks concludedRequest answerTo requestAnswer
+unfolding asks concludedRequest decided answerTo requestAnswer
 eleventh-13 q out e formed any permitted fits h =
     rw (lt-ltb 0 (sized (askedOf q e .body)) formed, any, permitted, fits, full (e .meter) h)

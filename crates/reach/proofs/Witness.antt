@@ -29,7 +29,7 @@ use Rattle.end.specs.Taking.{learned, obeysCommand, obeyed, roleAfter, acted, i
 use Rattle.link.specs.Hearing.{concludedHeard, concludedHeardOutput, receiveOf, receiveOutput}
 use Rattle.end.specs.Reporting.{linkUp, linkDown, reportedDue}
 use Rattle.link.specs.Reports.{reportOf, reportOutput}
-use Rattle.end.specs.Granting.{answerTo, granted}
+use Rattle.end.specs.Granting.{answerTo, granted, decided}
 use Rattle.link.specs.Requests.{requestToSend, concludedRequest, concludedRequestOutput, asks, asksOutput}
 use Rattle.end.specs.Sending.{faultOf, flagsToSend, allowed, tlvsToSend, changed, dues, sends, sent}
 use Rattle.link.specs.Outcomes.{informationToSend, concluded, concludedOutput}
@@ -42,7 +42,7 @@ use Rattle.reach.specs.Seconds.{framesIn}
 
 -- all definitions of the machine, opened at once
 unfoldable pub machine : Unit {0}
-unfolding joined headerAnswer bodyAnswer decode informationAt informationStep informationWalk tlvAt markAt walk headerOctets informationOctets encode plainFlags plainInformation plain sized writes written requestAnswer bit room chargedMeter closing turnedMeter answered obeys mayStart mayStop hasAll satisfies satisfied peerActive peerLoopback peerMaximum keptFrom sound remoteField faultFlag ownInformation clearedInformation clearedHeld learned obeysCommand obeyed roleAfter acted isRepeat shownEvents shownOf takenUp taken takenDue concludedHeard concludedHeardOutput receiveOf receiveOutput linkUp linkDown reportedDue reportOf reportOutput answerTo granted requestToSend concludedRequest concludedRequestOutput asks asksOutput faultOf flagsToSend allowed tlvsToSend informationToSend changed dues sends sent concluded concludedOutput freshEnd discoveryOf inAny faulted settled missed ticked tickedDue tickOf tickOutput
+unfolding joined headerAnswer bodyAnswer decode informationAt informationStep informationWalk tlvAt markAt walk headerOctets informationOctets encode plainFlags plainInformation plain sized writes written requestAnswer bit room chargedMeter closing turnedMeter answered obeys mayStart mayStop hasAll satisfies satisfied peerActive peerLoopback peerMaximum keptFrom sound remoteField faultFlag ownInformation clearedInformation clearedHeld learned obeysCommand obeyed roleAfter acted isRepeat shownEvents shownOf takenUp taken takenDue concludedHeard concludedHeardOutput receiveOf receiveOutput linkUp linkDown reportedDue reportOf reportOutput answerTo granted decided requestToSend concludedRequest concludedRequestOutput asks asksOutput faultOf flagsToSend allowed tlvsToSend informationToSend changed dues sends sent concluded concludedOutput freshEnd discoveryOf inAny faulted settled missed ticked tickedDue tickOf tickOutput
 machine = tt
 
 -- an active end that may be put in loopback, and a peer of the same kind

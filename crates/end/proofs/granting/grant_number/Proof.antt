@@ -1,18 +1,21 @@
 use borrow.Author.Needs.{needs}
+use Rattle.end.specs.Granting.{grantedNumber}
 use Rattle.end.proofs.granting.grant_number.Statement.{statement}
 use Rattle.end.proofs.granting.grant_number.Tie as tie
 
--- src/granting.rt:59:17
 next-number-requires : tie.Need-next-number-requires
 next-number-requires c κs = search needs
 
--- src/granting.rt:62:5
-charge-requires : tie.Need-charge-requires
-charge-requires c κs = search needs
+answer-to-requires : tie.Need-answer-to-requires
+answer-to-requires c κs = search needs
 
--- src/granting.rt:54:1
+decide-requires : tie.Need-decide-requires
+decide-requires c κs = search needs
+
 returns : tie.Need-returns
-returns c = simp (c .charge .ensures, c .before .before .before .before .before .next-number .ensures)
+unfolding grantedNumber
+returns c = simp (c .decide .ensures, c .before .answer-to .ensures, c .before .before .before .before .before .before .next-number .ensures)
 
 pub grant-number-spec : {M : Type 1} → statement M
-grant-number-spec = tie.close (tie.spec next-number-requires charge-requires returns)
+grant-number-spec =
+    tie.close (tie.spec next-number-requires answer-to-requires decide-requires returns)

@@ -1,5 +1,5 @@
-use mathlib.Core.Path.{sym, ap, _∙_}
-use Rattle.link.specs.Hearing.{saidBy, receiveOf, receiveOutput}
+use mathlib.Core.Path.{sym, _∙_}
+use Rattle.link.specs.Hearing.{receiveOf, receiveOutput}
 use borrow.Author.Needs.{needs}
 use Rattle.link.proofs.hearing.receive.Statement.{statement}
 use Rattle.link.proofs.hearing.receive.Tie as tie
@@ -15,11 +15,8 @@ unfolding receiveOf receiveOutput
 returns c = let short = sym (c .before .before .is-short .ensures) ∙ c .before .if1 .taken in
     (rw short (c .outcome .ensures), rw short)
 
-read-requires : tie.Need-read-requires
-read-requires c κs = search needs
-
-said-by-requires : tie.Need-said-by-requires
-said-by-requires c κs = search needs
+hear-requires : tie.Need-hear-requires
+hear-requires c κs = search needs
 
 enum-known-answer : tie.Need-enum-known-answer
 enum-known-answer c = search needs
@@ -35,8 +32,8 @@ conclude-heard-requires c κs = search needs
 
 returns-2 : tie.Need-returns-2
 unfolding receiveOf receiveOutput
-returns-2 c = let long = sym (c .before .before .before .before .before .before .before .is-short .ensures) ∙ c .before .before .before .before .before .before .if1 .left in
-    let said = sym (c .before .before .before .before .said-by .ensures ∙ ap saidBy (c .before .before .before .before .before .read .ensures)) ∙ c .before .before .answer .given .1 in
+returns-2 c = let long = sym (c .before .before .before .before .before .before .is-short .ensures) ∙ c .before .before .before .before .before .if1 .left in
+    let said = sym (c .before .before .before .before .hear .ensures) ∙ c .before .before .answer .given .1 in
     (rw (long, said) (c .outcome2 .ensures), rw (long, said))
 
 same-length : tie.Need-same-length
@@ -44,8 +41,8 @@ same-length c = search needs
 
 returns-3 : tie.Need-returns-3
 unfolding receiveOf receiveOutput
-returns-3 c = let long = sym (c .before .before .before .before .before .before .before .before .before .before .is-short .ensures) ∙ c .before .before .before .before .before .before .before .before .before .if1 .left in
-    let said = sym (c .before .before .before .before .before .before .before .said-by .ensures ∙ ap saidBy (c .before .before .before .before .before .before .before .before .read .ensures)) ∙ c .before .before .before .before .before .m .given .1 in
+returns-3 c = let long = sym (c .before .before .before .before .before .before .before .before .before .is-short .ensures) ∙ c .before .before .before .before .before .before .before .before .if1 .left in
+    let said = sym (c .before .before .before .before .before .before .before .hear .ensures) ∙ c .before .before .before .before .before .m .given .1 in
     (rw (long, said) (c .before .before .conclude-heard .ensures .0), rw (long, said) (c .before .before .conclude-heard .ensures .1))
 
 pub receive-spec : {M : Type 1} → statement M
@@ -55,8 +52,7 @@ receive-spec =
     is-short-requires
     outcome-requires
     returns
-    read-requires
-    said-by-requires
+    hear-requires
     enum-known-answer
     outcome-requires-2
     enum-known-m

@@ -1,0 +1,123 @@
+-- An end stays ranged outside `end`: each public function of that crate which gives an end gives a ranged one for a ranged one.
+-- So no crate above it, whatever it does, comes to another end; only `fresh` and `end_with` make one out of none.
+use Prim.Native.Nat.{ℕ, _^_, _<_}
+use mathlib.Core.Path.{_≡_, refl, sym, ap, _∙_}
+use mathlib.Core.List.{List, []}
+use mathlib.Core.Bool.{Bool, true, false}
+use native.Mathlib.Omega.{arith}
+use borrow.Author.Tests.{eqb-true}
+use lib.Dec.{eqb}
+use Rattle.tlvs.proofs.Numbers.{Octets}
+use Rattle.tlvs.proofs.Walks.{by-cond}
+use Rattle.frame.specs.Frame.{Answer, refused, accepted, decode, readingOf}
+use Rattle.peer.specs.Ranges.{sound}
+use Rattle.peer.specs.declared.Settings.{Settings}
+use Rattle.loopback.specs.Loopback.{mayStart, mayStop}
+use Rattle.end.specs.declared.End.{End}
+use Rattle.end.specs.declared.FreshEnd.{FreshEnd}
+use Rattle.end.specs.declared.FreshEnd.the-variants.{Refused, Is}
+use Rattle.end.specs.declared.Report.{Report}
+use Rattle.end.specs.declared.Heard.{Heard}
+use Rattle.end.specs.declared.Said.{Said}
+use Rattle.end.specs.declared.Said.the-variants.{Refusal, Is as SaidIs}
+use Rattle.end.specs.State.{withRole, freshEnd, freshOf}
+use Rattle.end.specs.Sending.{sent}
+use Rattle.end.specs.Ticking.{tickedDue}
+use Rattle.end.specs.Reporting.{reportedDue}
+use Rattle.end.specs.Hearing.{saidBy}
+use Rattle.end.specs.Taking.{takenDue, takenWhole}
+use Rattle.end.specs.Granting.{numbered, answerTo, granted, decided, grantedStart, grantedStop, grantedFrame, grantedNumber}
+use Rattle.end.specs.Ranges.{ranged, checked}
+use Rattle.reach.specs.Machine.{Request, start, stop, notify, tell, tick, report, receive, askedOf}
+use Rattle.reach.proofs.Coming.{heardIn, said-is, ticks, reports, hears}
+use Rattle.reach.proofs.Standing.{Ranged, ranged-is, is-ranged, fresh-ranged}
+use Rattle.reach.proofs.Keeping.{octets-fit}
+use Rattle.reach.proofs.Passing.{passes}
+use Rattle.reach.proofs.Ranging.{sent-ranged, noted-ranged, asked-ranged}
+
+-- ---- an end out of none
+
+-- the end that is there
+abbrev endIn : End → FreshEnd → End
+endIn e (Refused n) = e
+endIn e (Is x) = x
+
+-- `fresh`, for settings whose vendor fits its four octets
+pub fresh-guarded : (s : Settings) → s .vendor < 2 ^ 32 → (e : End) → freshOf s ≡ Is e → ranged e ≡ true
+unfolding freshOf
+fresh-guarded s v e =
+    by-cond (λ (f : FreshEnd). f ≡ Is e → ranged e ≡ true) (sound s)
+    (λ t h. rw (← ap (endIn e) h) (fresh-ranged s t v))
+    (λ _ h. let z : _≡_ {A = ℕ} 0 1 = cc in absurd (omega arith))
+
+-- `end_with`, for any parts
+pub end-with-guarded : (x e : End) → checked x ≡ Is e → ranged e ≡ true
+unfolding checked
+end-with-guarded x e =
+    by-cond (λ (f : FreshEnd). f ≡ Is e → ranged e ≡ true) (ranged x)
+    (λ t h. rw (← ap (endIn e) h) t)
+    (λ _ h. let z : _≡_ {A = ℕ} 0 1 = cc in absurd (omega arith))
+
+-- ---- an end out of an end
+
+module _ (e : End) (h : ranged e ≡ true) where
+  abbrev known : Ranged e
+  known = ranged-is e h
+
+  pub turn-due-guarded : ranged (tickedDue e) ≡ true
+  unfolding tickedDue
+  turn-due-guarded = is-ranged (tickedDue e) (noted-ranged e tick _ ticks tt known)
+
+  pub report-due-guarded : (r : Report) → ranged (reportedDue r e) ≡ true
+  unfolding reportedDue
+  report-due-guarded r = is-ranged (reportedDue r e) (noted-ranged e (report r) _ (reports r) tt known)
+
+  -- `take_due`, for what `hear` gives of a frame of octets: nothing else gives what is heard
+  pub take-due-guarded : (f : List ℕ) → Octets f → (m : Heard) → saidBy (readingOf (decode f)) ≡ SaidIs m → ranged (takenWhole m e .end) ≡ true
+  unfolding takenWhole takenDue
+  take-due-guarded f o m s = by-answer (decode f) refl
+    where
+      heardSaid : Said → Heard
+      heardSaid (Refusal n) = m
+      heardSaid (SaidIs x) = x
+
+      by-answer : (a : Answer) → decode f ≡ a → ranged (takenWhole m e .end) ≡ true
+      by-answer (refused k) d =
+          let r : saidBy (readingOf (refused k)) ≡ SaidIs m = ap (λ (a : Answer). saidBy (readingOf a)) (sym d) ∙ s in
+          let z : _≡_ {A = ℕ} 0 1 = cc in
+          absurd (omega arith)
+      by-answer (accepted x) d =
+          let r : saidBy (readingOf (accepted x)) ≡ SaidIs m = ap (λ (a : Answer). saidBy (readingOf a)) (sym d) ∙ s in
+          let is : heardIn x ≡ m = ap heardSaid (sym (said-is (x .source) (x .flags) (x .body)) ∙ r) in
+          rw (← is) (is-ranged (takenWhole (heardIn x) e .end) (noted-ranged e (receive f) _ (hears f x d) (octets-fit (receive f) o) known))
+
+  pub pay-guarded : ranged (sent e) ≡ true
+  pay-guarded = is-ranged (sent e) (sent-ranged e known)
+
+  -- a request that is decided as the machine's are, and makes of the end what one of those makes
+  decided-guarded : (q : Request) (octets : ℕ) (permitted : Bool) (lent : ℕ)
+      → (permitted ≡ true → askedOf q e .permitted ≡ true)
+      → ranged (decided (answerTo octets permitted lent e) e (askedOf q e .next) .end) ≡ true
+  unfolding decided
+  decided-guarded q octets permitted lent p =
+      by-cond (λ (x : End). ranged x ≡ true) (eqb (answerTo octets permitted lent e) 0)
+      (λ t.
+      let k = passes octets permitted lent e (eqb-true (answerTo octets permitted lent e) 0 t) in
+      is-ranged (granted e (askedOf q e .next)) (asked-ranged q e (k .any) (p (k .permitted)) known))
+      (λ _. h)
+
+  pub grant-start-guarded : (lent : ℕ) → ranged (grantedStart lent e .end) ≡ true
+  unfolding grantedStart
+  grant-start-guarded lent = decided-guarded start 60 (mayStart (e .settings .configuration) (e .peer .held) (e .role)) lent (λ p. p)
+
+  pub grant-stop-guarded : (lent : ℕ) → ranged (grantedStop lent e .end) ≡ true
+  unfolding grantedStop
+  grant-stop-guarded lent = decided-guarded stop 60 (mayStop (e .settings .configuration) (e .role)) lent (λ p. p)
+
+  pub grant-frame-guarded : (octets : ℕ) (permitted : Bool) (lent : ℕ) → ranged (grantedFrame octets permitted lent e .end) ≡ true
+  unfolding grantedFrame
+  grant-frame-guarded octets permitted lent = decided-guarded (tell 0 []) octets permitted lent (λ _. refl)
+
+  pub grant-number-guarded : (octets lent : ℕ) → ranged (grantedNumber octets lent e .end) ≡ true
+  unfolding grantedNumber
+  grant-number-guarded octets lent = decided-guarded (notify []) octets true lent (λ _. refl)
