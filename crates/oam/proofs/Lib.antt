@@ -2,5 +2,3 @@
 pub mod Written
 pub mod Stepped
 pub mod LentNumbers
-pub mod Lengths
-pub mod Again

@@ -4,11 +4,11 @@
 use Prim.Native.Nat.{ℕ, _≤_}
 use mathlib.Core.Path.{_≡_, refl}
 use mathlib.Core.List.{List}
-use mathlib.Core.Bool.{false}
+use mathlib.Core.Bool.{Bool, true, false, cond}
 use native.Mathlib.Omega.{arith}
 use borrow.Author.Tests.{ltb-false, eqb-true, eqb-false}
 use lib.ListN.{length}
-use lib.Dec.{ltb, eqb}
+use lib.Dec.{ltb, leb, eqb}
 use Rattle.body.specs.Information.{nothing, keepAll}
 use Rattle.frame.specs.Frame.{Body, information, notification, request, response, loopback, organization, Message, codeOf, Answer, refused, accepted, decode, readingOf}
 use Rattle.body.specs.declared.Held.{Held}
@@ -16,7 +16,9 @@ use Rattle.body.specs.declared.Held.the-variants.{Nothing as Silent}
 use Rattle.frame.proofs.Stepping.{refused-number}
 use Rattle.writer.specs.Plain.{sized}
 use Rattle.writer.specs.Writing.{writes, written}
-use Rattle.limit.specs.Limit.{closing}
+use Rattle.limit.specs.Asking.{fitsBoth, requestAnswer}
+use Rattle.limit.specs.Limit.{room, closing}
+use Rattle.peer.specs.Peers.{peerMaximum}
 use Rattle.end.specs.declared.End.{End}
 use Rattle.end.specs.declared.Report.{Report}
 use Rattle.end.specs.declared.Shown.the-variants.{Nothing}
@@ -25,6 +27,7 @@ use Rattle.end.specs.declared.Action.the-variants.{Inform, Notify, Command, Oth
 use Rattle.end.specs.declared.Heard.{Heard}
 use Rattle.end.specs.declared.Said.the-variants.{Is as SaidIs}
 use Rattle.end.specs.declared.Taken.{Taken}
+use Rattle.end.specs.State.{inAny}
 use Rattle.end.specs.Sending.{dues}
 use Rattle.link.specs.Outcomes.{outcome, lengthOf, concluded, concludedOutput}
 use Rattle.end.specs.Ticking.{ticked, tickedDue}
@@ -87,6 +90,7 @@ noted e t = dues e (t .due) (t .end)
 pub record Refuses (c : Call) (e : End) : Type 0 where
   pub number : ℕ
   pub some : number ≡ 0 → ⊥
+  pub known : number ≤ 15
   pub outcome : outcomeOf c e ≡ outcome e number 0 Nothing
   pub output : outputOf c e ≡ c .out
 
@@ -113,9 +117,23 @@ pub data Comes (c : Call) (e : End) : Type 0 where
 
 -- ---- each call
 
+-- "Requests: 10, 11, 15, 12, 13, 9."
+first-known : (b : Bool) (k n : ℕ) → k ≤ 15 → n ≤ 15 → cond b k n ≤ 15
+first-known true k n h g = h
+first-known false k n h g = g
+
+answer-known : (octets : ℕ) (permitted : Bool) (lent : ℕ) (e : End) → answerTo octets permitted lent e ≤ 15
+unfolding answerTo requestAnswer
+answer-known octets permitted lent e =
+    let nine = first-known (leb octets lent) 0 9 (omega arith) (omega arith) in
+    let thirteen = first-known (room (e .meter)) _ 13 nine (omega arith) in
+    let twelve = first-known (fitsBoth octets (e .settings .size) (peerMaximum (e .peer .held))) _ 12 thirteen (omega arith) in
+    let fifteen = first-known permitted _ 15 twelve (omega arith) in
+    first-known (ltb 0 octets) _ 10 (first-known (inAny e) _ 11 fifteen (omega arith)) (omega arith)
+
 -- "Receive, tick and report test 9 first, against 60 octets."
 short : (c : Call) (e : End) → outcomeOf c e ≡ outcome e 9 0 Nothing → outputOf c e ≡ c .out → Comes c e
-short c e o p = refuses (record { number = 9; some = λ z. absurd (omega arith); outcome = o; output = p })
+short c e o p = refuses (record { number = 9; some = λ z. absurd (omega arith); known = omega arith; outcome = o; output = p })
 
 module _ (out : List ℕ) (e : End) where
   abbrev lent : Input → Call
@@ -143,7 +161,7 @@ module _ (out : List ℕ) (e : End) where
       by-answer : ltb (length out) 60 ≡ false → (a : Answer) → decode f ≡ a → Comes (lent (receive f)) e
       by-answer n (refused k) d =
           let some = refused-number f k d in
-          refuses (record { number = k; some = λ z. omega arith; outcome = rw (n, d); output = rw (n, d) })
+          refuses (record { number = k; some = λ z. omega arith; known = omega arith; outcome = rw (n, d); output = rw (n, d) })
       by-answer n (accepted m) d =
           let s = said-is (m .source) (m .flags) (m .body) in
           concludes
@@ -156,7 +174,9 @@ module _ (out : List ℕ) (e : End) where
       let n : ℕ = answerTo (sized (a .body)) (a .permitted) (length out) e in
       whether (eqb n 0)
       (λ t. let z = eqb-true n 0 t in grants (record { asked = q; how = refl; answer = z; outcome = rw z; output = rw z }))
-      (λ f. refuses (record { number = n; some = eqb-false n 0 f; outcome = rw f; output = rw f }))
+      (λ f.
+      refuses
+      (record { number = n; some = eqb-false n 0 f; known = answer-known (sized (a .body)) (a .permitted) (length out) e; outcome = rw f; output = rw f }))
 
   comes-by : (i : Input) → Comes (lent i) e
   comes-by tick = comes-tick

@@ -1,7 +1,6 @@
--- Nothing is cut off in an outcome: of a writer it is 10, or 9, or the length above eight zero bits; of a call each of its parts
--- stands in its own bits.
-use Prim.Native.Nat.{ℕ, _+_, _*_, _/_, _%_, _^_, _<_}
-use mathlib.Core.Path.{_≡_, refl, ap, _∙_}
+-- Nothing is cut off in an outcome of a writer: it is 10, or 9, or the length above eight zero bits.
+use Prim.Native.Nat.{ℕ, _*_, _^_, _<_}
+use mathlib.Core.Path.{_≡_, refl, ap}
 use mathlib.Core.List.{List}
 use mathlib.Core.Bool.{Bool, true, false, cond}
 use native.Mathlib.Nat.{mod-eq-of-lt}
@@ -17,9 +16,7 @@ use Rattle.writer.proofs.Sizes.{encode-length}
 use Rattle.eventlog.specs.Line.{inRange, lineOf}
 use Rattle.eventlog.specs.Logging.{logs}
 use Rattle.eventlog.proofs.Lines.{longest}
-use Rattle.link.specs.declared.Outcome.{Outcome}
 use Rattle.oam.specs.Outcomes.{outcomeOf}
-use Rattle.concluding.specs.Concluding.{kindOf, steppedNumber}
 
 -- the outcome of n octets that are to be written, where they may be and where the output is too short
 abbrev pub outcomeIn : Bool → Bool → ℕ → ℕ
@@ -44,26 +41,3 @@ unfolding logs
 line-whole number position event room =
     let n = length (lineOf number position event) in
     whole (inRange number position event) (ltb room n) n (λ p. omega (arith, longest number position event p))
-
--- ---- the outcome of a call
-
-pub record Parts (o : Outcome) (n : ℕ) : Type 0 where
-  pub answer : n % 2 ^ 8 ≡ o .answer
-  pub written : n / 2 ^ 8 % 2 ^ 32 ≡ o .length
-  pub octet : n / 2 ^ 40 % 2 ^ 8 ≡ o .state
-  pub kind : n / 2 ^ 48 ≡ kindOf (o .shown)
-
--- of an outcome whose answer and State octet are octets, and whose frame is one
-pub call-whole : (o : Outcome) → o .answer < 2 ^ 8 → o .length < 2 ^ 32 → o .state < 2 ^ 8 → Parts o (steppedNumber o)
-unfolding steppedNumber
-call-whole o a l s =
-    let n = o .answer + o .length % 2 ^ 32 * 2 ^ 8 + o .state * 2 ^ 40 + kindOf (o .shown) * 2 ^ 48 in
-    let cut : o .length % 2 ^ 32 ≡ o .length = mod-eq-of-lt l in
-    let past : n / 2 ^ 8 ≡ o .length + o .state * 2 ^ 32 + kindOf (o .shown) * 2 ^ 40 = omega (arith, a, cut) in
-    let above : n / 2 ^ 40 ≡ o .state + kindOf (o .shown) * 2 ^ 8 = omega (arith, a, l, cut) in
-    record {
-      answer = omega (arith, a);
-      written = ap (λ (m : ℕ). m % 2 ^ 32) past ∙ omega (arith, l);
-      octet = ap (λ (m : ℕ). m % 2 ^ 8) above ∙ omega (arith, s);
-      kind = omega (arith, a, l, s, cut);
-    }

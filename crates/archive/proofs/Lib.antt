@@ -1,0 +1,4 @@
+-- The theorems on the archive.
+pub mod Lengths
+pub mod Whole
+pub mod Kept

@@ -1,0 +1,2 @@
+-- What the theorems on the archive speak of.
+pub mod Entries

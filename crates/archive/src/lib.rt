@@ -1,0 +1,1 @@
+// No code: a history of calls of the archive's entries on one state is a run of the machine.
