@@ -26,7 +26,10 @@
 extern "C" {
 #endif
 
-/* The answers. Each is given exactly when its line says. */
+/*
+ * The answers. 1 to 8 and 11 to 15 are given exactly when their line says, by the functions that test
+ * it. When 9 and 10 are given stands at each function.
+ */
 enum {
     OAM_ACCEPTED = 0,
     OAM_WRONG_LENGTH = 1,       /* received frame is not 60 to 1,514 octets */
@@ -37,8 +40,8 @@ enum {
     OAM_BROKEN = 6,             /* a TLV, descriptor or container is broken */
     OAM_SECOND_TLV = 7,         /* a second Local, or second Remote, Information TLV */
     OAM_WRONG_COMMAND = 8,      /* loopback command of a received frame is not 1 or 2 */
-    OAM_SHORT_OUTPUT = 9,       /* lent output is too short for what is to be stored in it */
-    OAM_OUT_OF_RANGE = 10,      /* settings or request values out of range, or octets that are no state */
+    OAM_SHORT_OUTPUT = 9,       /* lent output or slice of numbers too short */
+    OAM_OUT_OF_RANGE = 10,      /* settings or values out of range, or octets that are no state */
     OAM_NOT_IN_SEND_ANY = 11,   /* a request while discovery is not in SEND_ANY */
     OAM_EXCEEDS_MAXIMUM = 12,   /* frame, plus 4, exceeds the smaller of the two maximum sizes */
     OAM_TEN_FRAMES_WRITTEN = 13, /* ten frames already written in this timer second */
@@ -204,8 +207,8 @@ enum {
     OAM_NUMBER_KEPT_FIELD = 8,
     OAM_NUMBER_RECORD_HELD = 9, /* whether a peer record is held */
     OAM_NUMBER_RECORD = 10,     /* its seven numbers, those of an Information TLV, 10 to 16 */
-    OAM_NUMBER_LAST_HELD = 17,  /* whether an event number was received since FAULT was entered */
-    OAM_NUMBER_LAST = 18,       /* the last one */
+    OAM_NUMBER_LAST_HELD = 17,  /* whether a received event number is kept: in SEND_ANY, until FAULT */
+    OAM_NUMBER_LAST = 18,       /* the last one that was kept */
     OAM_NUMBER_ROLE = 19,
     OAM_NUMBER_TICKS = 20,          /* ticks since the timer second closed */
     OAM_NUMBER_FRAMES_WRITTEN = 21, /* frames written since then */
@@ -233,7 +236,10 @@ static inline size_t oam_length(uint64_t outcome)
     return (size_t)((outcome >> 8) & 0xFFFFFFFF);
 }
 
-/* The State octet. Of no use where a call was refused with OAM_OUT_OF_RANGE for its state. */
+/*
+ * The State octet of the end after the call, which a refused call has left as it was. Of no use where a
+ * call was refused with OAM_OUT_OF_RANGE for its state: then there is no end, and it is 0.
+ */
 static inline uint8_t oam_state_octet(uint64_t outcome)
 {
     return (uint8_t)((outcome >> 40) & 0xFF);
@@ -273,16 +279,17 @@ uint64_t oam_fresh(uint8_t configuration, uint16_t size, uint32_t oui, uint32_t 
                    uint8_t required, uint8_t *state, size_t state_len);
 
 /*
- * Takes one tick of 100 ms. Writes an Information frame where one is owed or the timer second closes.
- * Returns an outcome: accepted, or OAM_SHORT_OUTPUT for an output under OAM_LEAST_OUT octets; the tick
- * is not counted then.
+ * Takes one tick of 100 ms. Writes an Information frame where one is owed, and where the timer second
+ * closes: not in PASSIVE_WAIT, and with the link down only if unidirectional. Returns an outcome:
+ * accepted, or OAM_SHORT_OUTPUT for an output under OAM_LEAST_OUT octets, also where nothing would be
+ * written; the tick is not counted then.
  */
 uint64_t oam_tick(uint8_t *state, size_t state_len, uint8_t *out, size_t out_len);
 
 /*
  * Takes one report. Writes an Information frame where one is owed. Returns an outcome: accepted,
- * OAM_SHORT_OUTPUT for an output under OAM_LEAST_OUT octets, or OAM_OUT_OF_RANGE for a number that is no
- * report.
+ * OAM_OUT_OF_RANGE for a number that is no report, or OAM_SHORT_OUTPUT for an output under OAM_LEAST_OUT
+ * octets, also where nothing would be written.
  */
 uint64_t oam_report(uint8_t report, uint8_t *state, size_t state_len, uint8_t *out, size_t out_len);
 
@@ -290,8 +297,8 @@ uint64_t oam_report(uint8_t report, uint8_t *state, size_t state_len, uint8_t *o
  * Takes one received frame. Of an accepted one four numbers are stored in the header: source, flags,
  * code, and the event number where the events are new, else 0. Whether they are new is what oam_shown
  * says, since an event number may be 0. Writes an Information frame where one is owed. Returns an
- * outcome: accepted, a refusal 1 to 8 of the frame, or OAM_SHORT_OUTPUT for an output under
- * OAM_LEAST_OUT octets or a header under OAM_HEADER_NUMBERS numbers.
+ * outcome: accepted, OAM_SHORT_OUTPUT for a header under OAM_HEADER_NUMBERS numbers or an output under
+ * OAM_LEAST_OUT octets, before all else, or a refusal 1 to 8 of the frame.
  */
 uint64_t oam_receive(const uint8_t *frame, size_t frame_len, uint64_t *header, size_t header_len, uint8_t *state,
                      size_t state_len, uint8_t *out, size_t out_len);
