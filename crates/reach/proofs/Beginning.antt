@@ -1,11 +1,11 @@
 -- An end begins to loop only in a call that receives an enable, with its own bit 2 set, a record of an active peer held, and discovery
 -- in SEND_ANY after the call; and an end that loops received such a one in its present stay there. This is so whoever sent the frame.
-use Prim.Native.Nat.{ℕ, _%_}
+use Prim.Native.Nat.{ℕ, _%_, _<_}
 use mathlib.Core.Path.{_≡_, refl, sym, ap, _∙_, subst}
 use mathlib.Core.List.{List, [], _∷_}
 use mathlib.Core.Bool.{Bool, true, false, _&&_}
 use mathlib.Core.Logic.{_⊎_, inl, inr, ⊎-elim}
-use borrow.Author.Tests.{eqb-true, eqb-false}
+use borrow.Author.Tests.{ltb-true, eqb-true, eqb-false}
 use lib.Dec.{ltb, leb, eqb}
 use Rattle.tlvs.proofs.Walks.{by-cond}
 use Rattle.writer.proofs.Bools.{never, and-l, and-r}
@@ -55,6 +55,14 @@ is-looping Asking h = never h
 is-looping Holding h = never h
 is-looping Ending h = never h
 is-looping Looping h = refl
+
+-- a role that takes an enable, and does not loop yet
+turn : (r : Role) (source own : ℕ) → isLooping r ≡ false → takes r (ltb source own) ≡ true → (r ≡ Idle) ⊎ ((r ≡ Asking) × (source < own))
+turn Idle source own f t = inl refl
+turn Asking source own f t = inr (refl, ltb-true source own t)
+turn Holding source own f t = never t
+turn Ending source own f t = never t
+turn Looping source own f t = not-both refl f
 
 -- ---- the moves, and a Local TLV
 
@@ -212,7 +220,7 @@ module _ (c : Call) (e : End) (f : isLooping (e .role) ≡ false) where
         enables = o .enables;
         own = o .own;
         peer = ap (λ (z : Face). peerActive (z .footing .peer .held)) k ∙ o .peer;
-        role = o .role;
+        role = turn (e .role) (m .source) (e .settings .source) f (o .role);
         any = same-discovery (outcomeOf c e .end) y k ∙ o .any;
       })
       (taken-loops m e l)

@@ -1,21 +1,21 @@
 -- What it takes of an end to loop, whoever is at the other end of its link.
-use Prim.Native.Nat.{ℕ}
+use Prim.Native.Nat.{ℕ, _<_}
 use mathlib.Core.Path.{_≡_}
 use mathlib.Core.List.{List, _∷_}
 use mathlib.Core.Bool.{true}
-use lib.Dec.{ltb}
+use mathlib.Core.Logic.{_⊎_}
 use Rattle.frame.specs.Frame.{Message, loopback, accepted, decode}
 use Rattle.peer.specs.Bits.{bit}
 use Rattle.peer.specs.Peers.{peerActive}
 use Rattle.peer.specs.declared.Settings.{Settings}
-use Rattle.loopback.specs.Loopback.{takes}
+use Rattle.loopback.specs.declared.Role.the-variants.{Idle, Asking}
 use Rattle.discovery.specs.declared.Discovery.the-variants.{SendAny}
 use Rattle.end.specs.declared.End.{End}
 use Rattle.end.specs.State.{discoveryOf}
 use Rattle.reach.specs.Machine.{receive, Call, outcomeOf}
 use Rattle.reach.specs.Runs.{after}
 
--- the call received an enable that the end has to obey
+-- the call received an enable that an end obeys which does not loop yet
 pub record Ordered (c : Call) (e : End) : Type 0 where
   pub frame : List ℕ
   pub message : Message
@@ -25,8 +25,8 @@ pub record Ordered (c : Call) (e : End) : Type 0 where
   -- "Enable, own bit 2 set and peer active": by the record that is then held
   pub own : bit 2 (e .settings .configuration) ≡ true
   pub peer : peerActive (outcomeOf c e .end .peer .held) ≡ true
-  -- "Idle or Looping becomes Looping; Asking becomes Looping if its own address is the higher one (first octet first)"
-  pub role : takes (e .role) (ltb (message .source) (e .settings .source)) ≡ true
+  -- "Idle or Looping becomes Looping; Asking becomes Looping if its own address is the higher one (first octet first), else nothing."
+  pub role : (e .role ≡ Idle) ⊎ ((e .role ≡ Asking) × (message .source < e .settings .source))
   -- "then the body's action, only in SEND_ANY"
   pub any : discoveryOf (outcomeOf c e .end) ≡ SendAny
 
