@@ -6,7 +6,8 @@ mod feeding;
 mod line;
 mod row;
 
-pub use feeding::Fed;
+pub use feeding::Last;
+pub use feeding::Place;
 pub use feeding::Progress;
 pub use feeding::feed;
 pub use feeding::finish;
