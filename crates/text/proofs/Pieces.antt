@@ -5,6 +5,7 @@ use Prim.Native.Nat.{ℕ, suc, _+_, _-_, _≤_, _<_}
 use mathlib.Core.Path.{_≡_, refl, sym, ap, _∙_}
 use mathlib.Core.Bool.{Bool, true, false, cond}
 use mathlib.Core.List.{List, [], _∷_, _++_, append-assoc}
+use native.Mathlib.Nat.{add-assoc}
 use native.Mathlib.Omega.{arith}
 use borrow.Author.Tests.{le-ltb}
 use lib.Dec.{ltb}
@@ -51,6 +52,24 @@ module _ {S : Type 0} (r : Reader S) where
   -- no more is taken than there is
   pub taken-within : (room : ℕ) (o : Outcome S) (piece : List ℕ) → fedFrom r room o piece .taken ≤ o .taken + length piece
   taken-within room o piece = let k = comes room o piece [] in omega (arith, k .taken, k .within)
+
+  -- where the counting of the characters begins does not matter
+  abbrev pub further : ℕ → Outcome S → Outcome S
+  further n o = record { state = o .state; taken = n + o .taken; said = o .said }
+
+  by-room-further : (n : ℕ) (o x y : Outcome S) (short : Bool) → x ≡ further n y → cond short (further n o) x ≡ further n (cond short o y)
+  by-room-further n o x y true e = refl
+  by-room-further n o x y false e = e
+
+  pub counted-from : (n room : ℕ) (o : Outcome S) (piece : List ℕ) → fedFrom r room (further n o) piece ≡ further n (fedFrom r room o piece)
+  unfolding fedFrom
+  counted-from n room o [] = refl
+  counted-from n room o (c ∷ piece) =
+      by-room-further n o _ (fedFrom r room (takes r o c) piece) (ltb (room - length (o .said)) (r .wants (o .state) c))
+      (ap
+      (λ (taken : ℕ). fedFrom r room (record { state = takes r o c .state; taken = taken; said = takes r o c .said }) piece)
+      (add-assoc n (o .taken) 1)
+      ∙ counted-from n room (takes r o c) piece)
 
   -- the same for a whole input of which the piece is the first part
   in-input : (input : List ℕ) (size : ℕ) {o o' : Outcome S} → Comes o (take size input) (drop size input) o' → o .taken ≡ 0
