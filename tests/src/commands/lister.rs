@@ -15,6 +15,8 @@ const FRAMES: u64 = 200_000;
 /// Frames that are also fed octet by octet.
 const FEW_FRAMES: usize = 300;
 const LONGEST_PIECE: usize = 70_000;
+/// Empty lines, whose rows are many times longer than they are.
+const EMPTY_LINES: usize = 50_000;
 /// Differing rows that are shown.
 const SHOWN: usize = 5;
 /// How long a row may take that is awaited before the next line is fed.
@@ -35,6 +37,7 @@ pub fn run(arguments: &Arguments) -> Outcome {
     let trial = Trial { program, seed };
     trial.many(&many, &mut random)?;
     trial.octet_by_octet(&few)?;
+    trial.short()?;
     trial.tiny()?;
     trial.live()?;
     println!("no difference");
@@ -145,6 +148,14 @@ impl Trial {
     fn octet_by_octet(&self, input: &[u8]) -> Outcome {
         let ran = self.program.run_on_pipe(input, || 1)?;
         self.judge("octet by octet", input, &ran)
+    }
+
+    /// Far more rows than an output of the input's length has room for.
+    fn short(&self) -> Outcome {
+        let input = vec![b'\n'; EMPTY_LINES];
+        let file = TemporaryFile::holding("short", &input)?;
+        let ran = self.program.run_on_file(file.path())?;
+        self.judge("as empty lines", &input, &ran)
     }
 
     fn tiny(&self) -> Outcome {
