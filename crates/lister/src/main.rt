@@ -1,33 +1,14 @@
 // The lister: frames as lines of hexadecimal text on standard input, their listing on standard output.
 //
-// The program only moves octets: what it lists is the crate listing's. The input is read in pieces of 65,536 octets. Rows
-// wait in an output of as many, which is written where a row no longer fits, and at the input's end.
-ghost use Prim.Native.Nat.{_+_, _≤_, _<_};
+// The program only moves octets: what it lists is the crate listing's. The input is read in pieces of at most 65,536
+// octets, and rows wait in an output of as many. Whatever waits is written before anything else is read or listed.
+ghost use Prim.Native.Nat.{_≤_};
 ghost use lib.ListN.{length};
-ghost use Rattle.listing.specs.Rows.{rowRoom};
 use libc::STDIN_FILENO;
 use libc::STDOUT_FILENO;
+use listing::Last;
+use listing::Place;
 use listing::Progress;
-
-// How many octets wait in the output, and whether those before them could be written.
-struct Room {
-    is_written: bool,
-    waiting: usize,
-}
-
-// Where the listing stands: its progress, the place in the present piece, and the octets that wait in the output.
-struct Place {
-    progress: Progress,
-    taken: usize,
-    waiting: usize,
-}
-
-// After a piece: whether all could be written that had to be, the progress, and the octets that wait.
-struct Listed {
-    is_written: bool,
-    progress: Progress,
-    waiting: usize,
-}
 
 // Reads a piece, or says why it cannot.
 fn read(input: &mut [u8]) -> isize {
@@ -49,113 +30,55 @@ fn write(out: &[u8], waiting: usize) -> bool
     is_written
 }
 
-// Room for a row: what waits is written where there is none.
-fn make_room(out: &[u8], waiting: usize) -> Room
-    requires { ⌜ (waiting ≤ length (now out)) × (rowRoom ≤ length (now out)) ⌝ }
-    ensures { λ r. ⌜ r .waiting + rowRoom ≤ length (now (out .entry)) ⌝ }
-{
-    if out.len() - waiting < listing::ROW {
-        return Room {
-            is_written: write(out, waiting),
-            waiting: 0,
-        };
-    }
-    Room {
-        is_written: true,
-        waiting,
-    }
-}
-
-// The piece from a place on, as far as there is room.
-fn list_some(
-    progress: Progress,
-    frame: &mut [u8],
-    piece: &[u8],
-    taken: usize,
-    out: &mut [u8],
-    waiting: usize,
-) -> Place
-    requires { ⌜ (taken < length (now piece)) × (waiting + rowRoom ≤ length (now out)) ⌝ }
-    ensures { λ r. ⌜ (taken < r .taken) × (r .taken ≤ length (now (piece .entry))) × (r .waiting ≤ length (now (out .entry))) ⌝ }
-{
-    let fed = listing::feed(progress, frame, &piece[taken..], &mut out[waiting..]);
-    let progress = fed.progress;
-    Place {
-        progress,
-        taken: taken + fed.taken,
-        waiting: waiting + fed.written,
-    }
-}
-
-// The whole of a piece.
-fn list_piece(
-    progress: Progress,
-    frame: &mut [u8],
-    piece: &[u8],
-    out: &mut [u8],
-    waiting: usize,
-) -> Listed
-    requires { ⌜ (waiting ≤ length (now out)) × (rowRoom ≤ length (now out)) ⌝ }
-    ensures { λ r. ⌜ r .waiting ≤ length (now (out .entry)) ⌝ }
-{
-    let mut progress = progress;
-    let mut taken: usize = 0;
-    let mut waiting = waiting;
-    while taken < piece.len() {
-        let room = make_room(out, waiting);
-        if !room.is_written {
-            return Listed {
-                is_written: false,
-                progress,
-                waiting: 0,
-            };
+// The input's end: the row of a last line without newline.
+fn end(progress: Progress, frame: &mut [u8], out: &mut [u8]) {
+    let last = listing::finish(progress, frame, out);
+    match last {
+        Last::Written(waiting) => {
+            write(out, waiting);
         }
-        let place = list_some(progress, frame, piece, taken, out, room.waiting);
-        progress = place.progress;
-        taken = place.taken;
-        waiting = place.waiting;
-    }
-    Listed {
-        is_written: true,
-        progress,
-        waiting,
+        Last::Refused(_) => {}
     }
 }
 
-// The input's end: what waits, and then the row of a last line without newline.
-fn end(progress: Progress, frame: &mut [u8], out: &mut [u8], waiting: usize)
-    requires { ⌜ waiting ≤ length (now out) ⌝ }
-{
-    if write(out, waiting) {
-        let last = listing::finish(progress, frame, out);
-        write(out, last);
-    }
-}
-
-// Nothing says that an input ends, and a proved loop has to: its turns are a number that no run uses up.
+// A turn writes what waits; then it reads on where the piece is all taken, and lists on where it is not. Nothing says that
+// an input ends, and a proved loop has to: its turns are a number that no run uses up.
 fn main() {
     let mut frame = [0u8; 1514];
     let mut input = io::large_buffer();
     let mut output = io::large_buffer();
     let mut progress = listing::start();
+    let mut size: usize = 0;
+    let mut taken: usize = 0;
     let mut waiting = listing::put_header(&mut output);
     let mut turns = u64::MAX;
     while turns > 0 {
         turns -= 1;
-        let got = read(&mut input);
-        if got < 0 {
+        if !write(&output, waiting) {
             return;
         }
-        let n = io::count(got, &input);
-        if n == 0 {
-            end(progress, &mut frame, &mut output, waiting);
-            return;
+        waiting = 0;
+        if taken == size {
+            let got = read(&mut input);
+            if got < 0 {
+                return;
+            }
+            size = io::count(got, &input);
+            taken = 0;
+            if size == 0 {
+                end(progress, &mut frame, &mut output);
+                return;
+            }
+            continue;
         }
-        let listed = list_piece(progress, &mut frame, &input[..n], &mut output, waiting);
-        if !listed.is_written {
-            return;
-        }
+        let place = Place {
+            progress,
+            taken,
+            waiting,
+        };
+        let listed = listing::feed(place, &mut frame, &input[..size], &mut output);
         progress = listed.progress;
+        taken = listed.taken;
         waiting = listed.waiting;
     }
 }

@@ -1,65 +1,60 @@
 -- The input's end: a line that has begun is fed a newline.
 -- Assumes nothing.
-use Prim.Native.Nat.{ℕ, _-_, _≤_}
+use Prim.Native.Nat.{ℕ, _-_, _≤_, _<_}
 use mathlib.Core.Path.{_≡_, refl, sym, ap, _∙_}
 use mathlib.Core.Bool.{Bool, true, false, cond}
 use mathlib.Core.List.{List, [], _∷_}
-use native.Mathlib.Nat.{sub-zero}
 use native.Mathlib.Omega.{arith}
-use borrow.Author.Tests.{le-ltb}
+use borrow.Author.Tests.{lt-ltb, le-ltb}
 use lib.Dec.{ltb}
 use lib.ListN.{length}
 use lib.Seq.{sets}
-use Rattle.listing.specs.declared.feeding.Fed.{Fed}
+use Rattle.text.specs.Pieces.{Outcome, takes, fedFrom}
+use Rattle.listing.specs.declared.feeding.Place.{Place}
 use Rattle.listing.specs.declared.feeding.Progress.{Progress}
+use Rattle.listing.specs.declared.feeding.Last.the-variants.{Written, Refused}
 use Rattle.listing.specs.Rows.{newline, rowRoom}
 use Rattle.listing.specs.Taking.{hasBegun}
-use Rattle.listing.specs.Feeding.{Outcome, ends, fedFrom, fed, Feeds, finished, finishedIn, Finishes, reached}
+use Rattle.listing.specs.Feeding.{State, lister, fed, Feeds, lastRow, lastSaid, Finishes, presentRow}
 
--- with room the row is said, and without room nothing; the frame stays
-said-by-room : (b : Bool) (o : Outcome) → cond b o (ends o) .said ≡ cond b (o .said) (ends o .said)
-said-by-room true o = refl
-said-by-room false o = refl
+-- the place of a piece that is fed first, where nothing waits
+abbrev front : Progress → Place
+front p = record { progress = p; taken = 0; waiting = 0 }
 
-frame-by-room : (b : Bool) (o : Outcome) → cond b o (ends o) .frame ≡ o .frame
-frame-by-room true o = refl
-frame-by-room false o = refl
-
+-- nothing is said
 nothing-by-room : (b : Bool) → cond {A = List ℕ} b [] [] ≡ []
 nothing-by-room true = refl
 nothing-by-room false = refl
 
-module _ (p : Progress) (f : List ℕ) (room : ℕ) where
-  -- the row that a newline says is the last one
-  last-row : hasBegun (p .line) ≡ true → fed p f room (newline ∷ []) .said ≡ finishedIn room p f
-  unfolding fedFrom finished
-  last-row begun = rw (sub-zero, begun) (said-by-room (ltb room rowRoom) _)
+module _ (p : Progress) (f out : List ℕ) where
+  abbrev state : State
+  state = record { progress = p; frame = f }
 
-  last-frame : fed p f room (newline ∷ []) .frame ≡ f
+  -- with room for a row, the newline is taken
+  newline-taken : rowRoom ≤ length out → fed (front p) f (length out) (newline ∷ []) ≡ takes lister (record { state = state; taken = 0; said = [] }) newline
   unfolding fedFrom
-  last-frame = frame-by-room (ltb (room - 0) rowRoom) (reached (p .number) [] (p .line) f 0)
-
-  -- no line, no row
-  no-row : hasBegun (p .line) ≡ false → finishedIn room p f ≡ []
-  unfolding finished
-  no-row fresh = rw fresh (nothing-by-room (ltb room rowRoom))
+  newline-taken room = rw (le-ltb (length out - 0 - 0) rowRoom (omega arith))
 
   -- with room for a row all that there is to say at the end is said
-  pub finished-whole : rowRoom ≤ room → finishedIn room p f ≡ finished p f
-  finished-whole h = simp (le-ltb room rowRoom h)
+  pub said-whole : rowRoom ≤ length out → lastSaid (length out) state ≡ lastRow state
+  said-whole h = simp (le-ltb (length out) rowRoom h)
 
--- the two ways in which the end keeps its promise
-pub finishes : {p : Progress} {f out f' out' : List ℕ} {r : Fed} → hasBegun (p .line) ≡ true → Feeds p f (newline ∷ []) out r f' out' → Finishes p f out (r .written) f' out'
-finishes {p} {f} {out} begun feeds =
-    let row = last-row p f (length out) begun in
-    record {
-      frame = feeds .frame ∙ last-frame p f (length out);
-      written = feeds .written ∙ ap length row;
-      output = feeds .output ∙ ap (sets out 0) row;
-      fits = feeds .fits;
-    }
+  -- the three ways in which the end keeps its promise
+  pub finishes : {f' out' : List ℕ} {r : Place} → hasBegun (p .line) ≡ true → rowRoom ≤ length out → Feeds (front p) f (newline ∷ []) out r f' out'
+      → Finishes p f out (Written (r .waiting)) f' out'
+  unfolding lastRow
+  finishes begun room feeds =
+      let one = newline-taken room in
+      record {
+        result = rw (begun, le-ltb (length out) rowRoom room) (ap Written (ap (λ (q : Place). q .waiting) (feeds .place) ∙ rw one (omega arith)));
+        frame = feeds .frame ∙ ap (λ (o : Outcome State). o .state .frame) one;
+        output = feeds .output ∙ rw (one, begun, le-ltb (length out) rowRoom room);
+        fits = feeds .fits (omega arith);
+      }
 
-pub finishes-none : (p : Progress) (f out : List ℕ) → hasBegun (p .line) ≡ false → Finishes p f out 0 f out
-finishes-none p f out fresh =
-    let row = no-row p f (length out) fresh in
-    record { frame = refl; written = sym (ap length row); output = sym (ap (sets out 0) row); fits = omega arith }
+  pub finishes-short : hasBegun (p .line) ≡ true → length out < rowRoom → Finishes p f out (Refused 9) f out
+  finishes-short begun short = record { result = rw (begun, lt-ltb (length out) rowRoom short); frame = refl; output = rw (lt-ltb (length out) rowRoom short); fits = omega arith }
+
+  pub finishes-none : hasBegun (p .line) ≡ false → Finishes p f out (Written 0) f out
+  unfolding lastRow
+  finishes-none fresh = record { result = rw fresh; frame = refl; output = rw (fresh, nothing-by-room (ltb (length out) rowRoom)); fits = omega arith }

@@ -1,13 +1,13 @@
 -- How a call goes on over a piece: a character of a line, and an octet of two digits.
 -- Assumes nothing.
-use Prim.Native.Nat.{ℕ, _+_, _*_, _≤_, _<_}
+use Prim.Native.Nat.{ℕ, _+_, _-_, _*_, _≤_, _<_}
 use mathlib.Core.Path.{_≡_, refl, sym, ap, _∙_}
 use mathlib.Core.Bool.{false, true≢false}
-use mathlib.Core.List.{List, _∷_}
+use mathlib.Core.List.{List, _∷_, append-nil}
 use native.Mathlib.Nat.{mod-eq-of-lt}
 use native.Mathlib.Numerals.{add-one}
 use native.Mathlib.Omega.{arith}
-use borrow.Author.Tests.{ne-eqb, le-leb}
+use borrow.Author.Tests.{ne-eqb, le-leb, lt-ltb, le-ltb}
 use lib.ListN.{length, drop, getD, set}
 use lib.Seq.{drop-cons}
 use Rattle.listing.specs.declared.line.Line.{Line}
@@ -15,8 +15,9 @@ use Rattle.listing.specs.declared.line.Scanned.{Scanned}
 use Rattle.listing.specs.declared.line.Line.the-variants.{Whole, Half}
 use Rattle.listing.specs.Rows.{newline}
 use Rattle.listing.specs.Lines.{isDigit}
-use Rattle.listing.specs.Taking.{valueOf, lineWith, frameWith}
-use Rattle.listing.specs.Feeding.{fedFrom, Leads, Scans}
+use Rattle.text.specs.Pieces.{fedFrom}
+use Rattle.listing.specs.Taking.{valueOf, held, lineWith, frameWith}
+use Rattle.listing.specs.Feeding.{Leads, Scans}
 use Rattle.listing.proofs.Digits.{digit}
 
 -- a part of a piece, and another after it
@@ -35,10 +36,11 @@ next-cell piece at h = rw (add-one at) (drop-cons piece at 0 h)
 
 -- a character that ends no line
 pub one-taken : (piece : List ℕ) (line : Line) (f : List ℕ) (at : ℕ) → at < length piece → (getD piece at 0 ≡ newline → ⊥)
-    → Leads piece line f at (lineWith (length f) line (getD piece at 0)) (frameWith f line (getD piece at 0)) (at + 1)
+    → Leads piece line f at (lineWith line (getD piece at 0)) (frameWith f line (getD piece at 0)) (at + 1)
 unfolding fedFrom
 one-taken piece line f at h other room number said =
-    rw (next-cell piece at h) (simp (ne-eqb (getD piece at 0) newline other))
+    rw (next-cell piece at h)
+    (rw (ne-eqb (getD piece at 0) newline other, le-ltb (room - length said) 0 (omega arith), append-nil said))
 
 -- a digit ends no line
 newline-foreign : isDigit newline ≡ false
@@ -49,20 +51,20 @@ no-newline : (c : ℕ) → valueOf c ≤ 15 → c ≡ newline → ⊥
 no-newline c h e = true≢false (sym (digit c h) ∙ ap isDigit e ∙ newline-foreign)
 
 -- the first digit of an octet, and the second
-first-digit : (f : List ℕ) (n c : ℕ) → valueOf c ≤ 15 → (lineWith (length f) (Whole n) c ≡ Half n (valueOf c)) × (frameWith f (Whole n) c ≡ f)
+first-digit : (f : List ℕ) (n c : ℕ) → valueOf c ≤ 15 → (lineWith (Whole n) c ≡ Half n (valueOf c)) × (frameWith f (Whole n) c ≡ f)
 unfolding lineWith frameWith
 first-digit f n c h = let d = digit c h in (rw d, rw d)
 
-second-digit : (f : List ℕ) (n high c : ℕ) → n < length f → high ≤ 15 → valueOf c ≤ 15
-    → (lineWith (length f) (Half n high) c ≡ Whole (n + 1)) × (frameWith f (Half n high) c ≡ set f n (high * 16 + valueOf c))
+second-digit : (f : List ℕ) (n high c : ℕ) → n < held f → high ≤ 15 → valueOf c ≤ 15
+    → (lineWith (Half n high) c ≡ Whole (n + 1)) × (frameWith f (Half n high) c ≡ set f n (high * 16 + valueOf c))
 unfolding lineWith frameWith
 second-digit f n high c room h k =
     let d = digit c k in
     let below : high < 16 = omega arith in
-    (simp (d, le-leb n (length f) (omega arith)), rw (d, mod-eq-of-lt below))
+    (simp (d, le-leb n 1514 (omega arith)), rw (d, mod-eq-of-lt below, lt-ltb n (held f) room))
 
--- an octet of two digits, for which the frame has room
-pub octet-taken : (piece f : List ℕ) (n at : ℕ) → at + 1 < length piece → n < length f
+-- an octet of two digits that the frame holds
+pub octet-taken : (piece f : List ℕ) (n at : ℕ) → at + 1 < length piece → n < held f
     → valueOf (getD piece at 0) ≤ 15 → valueOf (getD piece (at + 1) 0) ≤ 15
     → Leads piece (Whole n) f at (Whole (n + 1)) (set f n (valueOf (getD piece at 0) * 16 + valueOf (getD piece (at + 1) 0))) (at + 2)
 octet-taken piece f n at within fits h k room number said =

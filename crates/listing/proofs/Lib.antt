@@ -1,10 +1,8 @@
--- The laws of the listing; Listings has its theorem.
+-- The laws of the listing that its code needs; its theorems are in the crate listed.
 pub mod Entries
 pub mod Digits
+pub mod Keeping
 pub mod Leading
 pub mod Standing
 pub mod Beginning
 pub mod Finishing
-pub mod Pieces
-pub mod Texts
-pub mod Listings

@@ -1,99 +1,116 @@
--- How an input is fed: a character at a time, from where the call stands between two characters.
+-- How an input is fed: a character at a time, from where a call stands between two characters.
 use Prim.Native.Nat.{ℕ, _+_, _-_, _≤_, _<_}
 use mathlib.Core.Path.{_≡_}
-use mathlib.Core.List.{List, [], _∷_, _++_}
-use mathlib.Core.Bool.{cond}
+use mathlib.Core.List.{List, [], _∷_}
+use mathlib.Core.Bool.{Bool, cond}
 use lib.Dec.{ltb, eqb}
 use lib.ListN.{length, getD, drop}
 use lib.Seq.{sets}
+use Rattle.text.specs.Pieces.{Reader, Outcome, fedFrom}
 use Rattle.listing.specs.Rows.{newline, rowOf, rowRoom}
 use Rattle.listing.specs.Listing.{following}
 use Rattle.listing.specs.Taking.{fresh, lineWith, frameWith, hasBegun, decodedOf, decodedEntry}
 use Rattle.listing.specs.declared.line.Line.{Line}
 use Rattle.listing.specs.declared.line.Scanned.{Scanned}
 use Rattle.listing.specs.declared.feeding.Progress.{Progress}
-use Rattle.listing.specs.declared.feeding.Fed.{Fed}
+use Rattle.listing.specs.declared.feeding.Place.{Place}
+use Rattle.listing.specs.declared.feeding.Last.{Last}
+use Rattle.listing.specs.declared.feeding.Last.the-variants.{Written, Refused}
 
 -- before the first character
 abbrev pub begun : Progress
 begun = record { number = 1; line = fresh }
 
--- the row of the present line
-abbrev pub presentRow : Progress → List ℕ → List ℕ
-presentRow p f = rowOf (p .number) (decodedEntry f (decodedOf (p .line)))
-
--- what a call has come to: the progress and the frame, the characters taken and the octets said
-pub record Outcome : Type 0 where
+-- where a listing stands: the progress, and the working frame
+pub record State : Type 0 where
   pub progress : Progress
   pub frame : List ℕ
-  pub taken : ℕ
-  pub said : List ℕ
+
+-- the row of the present line
+abbrev pub presentRow : State → List ℕ
+presentRow s = rowOf (s .progress .number) (decodedEntry (s .frame) (decodedOf (s .progress .line)))
 
 -- a character of a line
-abbrev pub takes : Outcome → ℕ → Outcome
-takes o c = record {
-  progress = record { number = o .progress .number; line = lineWith (length (o .frame)) (o .progress .line) c };
-  frame = frameWith (o .frame) (o .progress .line) c;
-  taken = o .taken + 1;
-  said = o .said;
+abbrev pub goesOn : State → ℕ → State
+goesOn s c = record {
+  progress = record { number = s .progress .number; line = lineWith (s .progress .line) c };
+  frame = frameWith (s .frame) (s .progress .line) c;
 }
 
 -- a newline
-abbrev pub ends : Outcome → Outcome
-ends o = record {
-  progress = record { number = following (o .progress .number); line = fresh };
-  frame = o .frame;
-  taken = o .taken + 1;
-  said = o .said ++ presentRow (o .progress) (o .frame);
+abbrev pub ends : State → State
+ends s = record {
+  progress = record { number = following (s .progress .number); line = fresh };
+  frame = s .frame;
 }
 
--- The characters in order. The call stops before a newline where the room may be too short for its row.
-unfoldable pub fedFrom : ℕ → Outcome → List ℕ → Outcome
-fedFrom room o [] = o
-fedFrom room o (c ∷ rest) =
-    cond (eqb c newline)
-    (cond (ltb (room - length (o .said)) rowRoom) o (fedFrom room (ends o) rest))
-    (fedFrom room (takes o c) rest)
-
--- a call with a piece, and room for so many octets of rows
-abbrev pub fed : Progress → List ℕ → ℕ → List ℕ → Outcome
-fed p f room piece = fedFrom room (record { progress = p; frame = f; taken = 0; said = [] }) piece
-
--- what `feed` promises: the outcome's parts, and that the rows fit into the output
-pub record Feeds (p : Progress) (f piece out : List ℕ) (r : Fed) (f' out' : List ℕ) : Type 0 where
-  pub progress : r .progress ≡ fed p f (length out) piece .progress
-  pub taken : r .taken ≡ fed p f (length out) piece .taken
-  pub written : r .written ≡ length (fed p f (length out) piece .said)
-  pub frame : f' ≡ fed p f (length out) piece .frame
-  pub output : out' ≡ sets out 0 (fed p f (length out) piece .said)
-  pub fits : r .written ≤ length out
-
 -- at the input's end: "a last line needs no newline"
-unfoldable pub finished : Progress → List ℕ → List ℕ
-finished p f = cond (hasBegun (p .line)) (presentRow p f) []
+unfoldable pub lastRow : State → List ℕ
+lastRow s = cond (hasBegun (s .progress .line)) (presentRow s) []
 
--- nothing where the room may be too short for a row
-abbrev pub finishedIn : ℕ → Progress → List ℕ → List ℕ
-finishedIn room p f = cond (ltb room rowRoom) [] (finished p f)
+-- A newline says its line's row, and wants room for any row.
+abbrev pub lister : Reader State
+lister = record {
+  next = λ s c. cond (eqb c newline) (ends s) (goesOn s c);
+  says = λ s c. cond (eqb c newline) (presentRow s) [];
+  wants = λ s c. cond (eqb c newline) rowRoom 0;
+  last = lastRow;
+}
 
--- what `finish` promises
-pub record Finishes (p : Progress) (f out : List ℕ) (r : ℕ) (f' out' : List ℕ) : Type 0 where
+-- a call from a place of a piece on, with the room that an output of so many octets has from what waits there on
+abbrev pub fed : Place → List ℕ → ℕ → List ℕ → Outcome State
+fed p f octets piece =
+    fedFrom lister (octets - p .waiting)
+    (record { state = record { progress = p .progress; frame = f }; taken = p .taken; said = [] })
+    (drop (p .taken) piece)
+
+-- the place that it comes to: what was said waits after what waited
+abbrev pub placeAfter : ℕ → Outcome State → Place
+placeAfter waiting o = record { progress = o .state .progress; taken = o .taken; waiting = waiting + length (o .said) }
+
+-- what `feed` promises: the place and the frame, what is said stored after what waits, and that it fits into the output
+pub record Feeds (p : Place) (f piece out : List ℕ) (r : Place) (f' out' : List ℕ) : Type 0 where
+  pub place : r ≡ placeAfter (p .waiting) (fed p f (length out) piece)
+  pub frame : f' ≡ fed p f (length out) piece .state .frame
+  pub output : out' ≡ sets out (p .waiting) (fed p f (length out) piece .said)
+  pub fits : p .waiting ≤ length out → r .waiting ≤ length out
+
+-- ---- the input's end
+
+-- whether there is a last line, and then whether an output of so many octets has room for any row
+abbrev pub lastOf : ℕ → State → Last
+lastOf octets s = cond (hasBegun (s .progress .line)) (cond (ltb octets rowRoom) (Refused 9) (Written (length (presentRow s)))) (Written 0)
+
+-- a refusal says nothing
+abbrev pub lastSaid : ℕ → State → List ℕ
+lastSaid octets s = cond (ltb octets rowRoom) [] (lastRow s)
+
+abbrev pub octetsWritten : Last → ℕ
+octetsWritten (Written n) = n
+octetsWritten (Refused answer) = 0
+
+-- what `finish` promises: the result, the row at the output's front, and that it fits; the working frame stays
+pub record Finishes (p : Progress) (f out : List ℕ) (r : Last) (f' out' : List ℕ) : Type 0 where
+  pub result : r ≡ lastOf (length out) (record { progress = p; frame = f })
   pub frame : f' ≡ f
-  pub written : r ≡ length (finishedIn (length out) p f)
-  pub output : out' ≡ sets out 0 (finishedIn (length out) p f)
-  pub fits : r ≤ length out
+  pub output : out' ≡ sets out 0 (lastSaid (length out) (record { progress = p; frame = f }))
+  pub fits : octetsWritten r ≤ length out
 
 -- ---- a part of a piece
 
 -- a call that has come to a line and a frame at a place of a piece
-abbrev pub reached : ℕ → List ℕ → Line → List ℕ → ℕ → Outcome
-reached number said line f at = record { progress = record { number = number; line = line }; frame = f; taken = at; said = said }
+abbrev pub reached : ℕ → List ℕ → Line → List ℕ → ℕ → Outcome State
+reached number said line f at = record {
+  state = record { progress = record { number = number; line = line }; frame = f };
+  taken = at;
+  said = said;
+}
 
 -- whatever the rows said so far and the room, the call comes to the same from the later place
 abbrev pub Leads : List ℕ → Line → List ℕ → ℕ → Line → List ℕ → ℕ → Type 0
 Leads piece line f at line' f' at' =
     (room number : ℕ) (said : List ℕ)
-    → fedFrom room (reached number said line f at) (drop at piece) ≡ fedFrom room (reached number said line' f' at') (drop at' piece)
+    → fedFrom lister room (reached number said line f at) (drop at piece) ≡ fedFrom lister room (reached number said line' f' at') (drop at' piece)
 
 -- what is promised of a part that is taken
 pub record Scans (piece : List ℕ) (line : Line) (f : List ℕ) (at : ℕ) (r : Scanned) (f' : List ℕ) : Type 0 where

@@ -1,8 +1,7 @@
--- What the promises of listing cite. Rows, Lines and Listing say what the listing of an input is; Taking, Feeding and
--- Calls how the code comes to it.
+-- What the promises of listing cite. Rows, Lines and Listing say what the listing of an input is; Taking and Feeding how the
+-- code comes to it.
 pub mod Rows
 pub mod Lines
 pub mod Listing
 pub mod Taking
 pub mod Feeding
-pub mod Calls

@@ -1,5 +1,5 @@
 -- How a line is taken: a character at a time, its octets into a working frame.
-use Prim.Native.Nat.{ℕ, _+_, _*_, _%_}
+use Prim.Native.Nat.{ℕ, _+_, _*_, _%_, min}
 use mathlib.Core.List.{List}
 use mathlib.Core.Bool.{Bool, true, cond}
 use lib.Dec.{ltb, leb}
@@ -18,29 +18,40 @@ use Rattle.listing.specs.declared.row.Entry.the-variants.{Refused}
 abbrev pub valueOf : ℕ → ℕ
 valueOf c = cond (isDigit c) (digitOf c) 16
 
--- one octet more, for a working frame with room for so many; one more than these stands for any number above
-abbrev pub counted : ℕ → ℕ → ℕ
-counted room octets = cond (leb octets room) (octets + 1) octets
+-- the octets that a frame has at most: "not 60 to 1,514 octets"
+abbrev pub longest : ℕ
+longest = 1514
+
+-- one octet more; one more than a frame has stands for any number above
+abbrev pub counted : ℕ → ℕ
+counted octets = cond (leb octets longest) (octets + 1) octets
 
 -- no character yet
 abbrev pub fresh : Line
 fresh = Whole 0
 
 -- one digit more: the first of an octet, or the second
-abbrev pub withDigit : ℕ → Line → ℕ → Line
-withDigit room (Whole n) v = Half n v
-withDigit room (Half n high) v = Whole (counted room n)
-withDigit room Foreign v = Foreign
+abbrev pub withDigit : Line → ℕ → Line
+withDigit (Whole n) v = Half n v
+withDigit (Half n high) v = Whole (counted n)
+withDigit Foreign v = Foreign
 
--- "filled digit by digit": the second digit of an octet stores it, where the frame has room
+-- the octets that a working frame holds: as many as it has, and no more than a frame
+abbrev pub held : List ℕ → ℕ
+held f = min (length f) longest
+
+abbrev pub keep : List ℕ → ℕ → ℕ → List ℕ
+keep f n octet = cond (ltb n (held f)) (set f n octet) f
+
+-- "filled digit by digit": the second digit of an octet stores it, where the working frame holds it
 abbrev pub storeDigit : List ℕ → Line → ℕ → List ℕ
 storeDigit f (Whole n) v = f
-storeDigit f (Half n high) v = set f n (high % 16 * 16 + v)
+storeDigit f (Half n high) v = keep f n (high % 16 * 16 + v)
 storeDigit f Foreign v = f
 
 -- one character more
-unfoldable pub lineWith : ℕ → Line → ℕ → Line
-lineWith room line c = cond (isDigit c) (withDigit room line (digitOf c)) Foreign
+unfoldable pub lineWith : Line → ℕ → Line
+lineWith line c = cond (isDigit c) (withDigit line (digitOf c)) Foreign
 
 unfoldable pub frameWith : List ℕ → Line → ℕ → List ℕ
 frameWith f line c = cond (isDigit c) (storeDigit f line (digitOf c)) f
@@ -56,7 +67,12 @@ decodedOf (Whole n) = Length n
 decodedOf (Half n high) = NotHexadecimal
 decodedOf Foreign = NotHexadecimal
 
--- the entry of that; where the octets are more than the working frame holds, none of it is read and the answer is 1
+-- the refusal of a line whose octets are more than the working frame holds: 9, it is lent too short; or 1, they are more
+-- than a frame has
+abbrev pub tooMany : ℕ → ℕ
+tooMany n = cond (leb n longest) 9 1
+
+-- the entry of what a line comes to
 abbrev pub decodedEntry : List ℕ → Decoded → Entry
-decodedEntry f (Length n) = cond (leb n (length f)) (entryOf (decode (take n f))) (Refused 1)
+decodedEntry f (Length n) = cond (leb n (held f)) (entryOf (decode (take n f))) (Refused (tooMany n))
 decodedEntry f NotHexadecimal = Refused 14

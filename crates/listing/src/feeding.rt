@@ -1,10 +1,11 @@
 // Feeding an input in pieces: the lines' rows as far as there is room for them.
 ghost use mathlib.Core.Path.{_≡_};
-ghost use lib.ListN.{length};
-ghost use Rattle.listing.specs.Taking.{decodedEntry};
+ghost use Rattle.listing.specs.Taking.{tooMany, decodedEntry};
 ghost use Rattle.listing.specs.Feeding.{begun, Feeds, Finishes};
 use crate::line::Decoded;
+use crate::line::LONGEST;
 use crate::line::Line;
+use crate::line::held;
 use crate::line::scan;
 use crate::row::Entry;
 use crate::row::ROW;
@@ -17,11 +18,18 @@ pub struct Progress {
     line: Line,
 }
 
-// After a call: the progress, how many characters were taken, and how many octets written.
-pub struct Fed {
+// The place of a listing in a piece and in its output: the progress, the characters of the piece that are taken, and the
+// octets that wait in the output to be written.
+pub struct Place {
     pub progress: Progress,
     pub taken: usize,
-    pub written: usize,
+    pub waiting: usize,
+}
+
+// What is left to say at the input's end: so many octets were written, or the output may be too short for the row (9).
+pub enum Last {
+    Written(usize),
+    Refused(u8),
 }
 
 // Before the first character.
@@ -34,26 +42,36 @@ pub fn start() -> Progress
     }
 }
 
-// The entry of a line of so many octets. Where the working frame is too short for them, none of it is read.
+// The refusal of a line of more octets than the working frame holds.
+fn too_many(length: usize) -> u8
+    ensures { λ r. ⌜ r ≡ tooMany length ⌝ }
+{
+    if length <= LONGEST {
+        return 9;
+    }
+    1
+}
+
+// The entry of a line of so many octets. Where the working frame does not hold them, none of it is read.
 fn length_entry(frame: &[u8], length: usize) -> Entry
     ensures { λ r. ⌜ r ≡ decodedEntry (now (frame .entry)) (Decoded.Length length) ⌝ }
 {
-    if length <= frame.len() {
-        frame_entry(&frame[..length])
-    } else {
-        Entry::Refused(1)
+    if length <= held(frame) {
+        return frame_entry(&frame[..length]);
     }
+    Entry::Refused(too_many(length))
 }
 
-// The piece's characters in order, with a row for each newline. It stops before a newline for whose row the output may
-// be too short.
-pub fn feed(progress: Progress, frame: &mut [u8], piece: &[u8], out: &mut [u8]) -> Fed
-    ensures { λ r. ⌜ Feeds progress (now (frame .entry)) (now (piece .entry)) (now (out .entry)) r (now (frame .exit)) (now (out .exit)) ⌝ }
+// The piece's characters in order from a place on, with a row for each newline after what waits in the output. It stops
+// before a newline for whose row the output may be too short.
+pub fn feed(place: Place, frame: &mut [u8], piece: &[u8], out: &mut [u8]) -> Place
+    ensures { λ r. ⌜ Feeds place (now (frame .entry)) (now (piece .entry)) (now (out .entry)) r (now (frame .exit)) (now (out .exit)) ⌝ }
 {
+    let progress = place.progress;
     let mut number = progress.number;
     let mut line = progress.line;
-    let mut taken: usize = 0;
-    let mut written: usize = 0;
+    let mut taken = place.taken;
+    let mut waiting = place.waiting;
     while taken < piece.len() {
         let scanned = scan(line, frame, piece, taken);
         line = scanned.line;
@@ -61,7 +79,7 @@ pub fn feed(progress: Progress, frame: &mut [u8], piece: &[u8], out: &mut [u8]) 
         if taken == piece.len() {
             break;
         }
-        if out.len() - written < ROW {
+        if text::room_from(out, waiting) < ROW {
             break;
         }
         let ended = number;
@@ -70,27 +88,34 @@ pub fn feed(progress: Progress, frame: &mut [u8], piece: &[u8], out: &mut [u8]) 
         line = Line::fresh();
         taken += 1;
         let Decoded::Length(length) = decoded else {
-            written = put_row(out, written, ended, Entry::Refused(14));
+            waiting = put_row(out, waiting, ended, Entry::Refused(14));
             continue;
         };
-        written = put_row(out, written, ended, length_entry(frame, length));
+        waiting = put_row(out, waiting, ended, length_entry(frame, length));
     }
-    Fed {
+    Place {
         progress: Progress { number, line },
         taken,
-        written,
+        waiting,
     }
 }
 
-// The row of a last line that has no newline: it is fed one, where it has begun. Without room for a row nothing is
-// written.
-pub fn finish(progress: Progress, frame: &mut [u8], out: &mut [u8]) -> usize
+// The row of a last line that has no newline, at the output's front: the line is fed one, where it has begun.
+pub fn finish(progress: Progress, frame: &mut [u8], out: &mut [u8]) -> Last
     ensures { λ r. ⌜ Finishes progress (now (frame .entry)) (now (out .entry)) r (now (frame .exit)) (now (out .exit)) ⌝ }
 {
     let line = progress.line;
     if line.has_begun() {
-        let fed = feed(progress, frame, b"\n", out);
-        return fed.written;
+        if out.len() < ROW {
+            return Last::Refused(9);
+        }
+        let place = Place {
+            progress,
+            taken: 0,
+            waiting: 0,
+        };
+        let fed = feed(place, frame, b"\n", out);
+        return Last::Written(fed.waiting);
     }
-    0
+    Last::Written(0)
 }

@@ -1,17 +1,20 @@
 // A line of hexadecimal text as far as it has come, its octets in a working frame that is lent.
 ghost use mathlib.Core.Path.{_≡_};
 ghost use Prim.Native.Nat.{_+_, _*_, _%_, _≤_};
-ghost use lib.ListN.{length, set};
-ghost use Rattle.listing.specs.Taking.{valueOf, fresh, counted, lineWith, frameWith, hasBegun, decodedOf};
+ghost use lib.ListN.{length};
+ghost use Rattle.listing.specs.Taking.{valueOf, fresh, counted, held, keep, lineWith, frameWith, hasBegun, decodedOf};
 ghost use Rattle.listing.specs.Feeding.{Scans, Stops};
 
 // The line so far: its whole octets, or these and the first digit of the next; or it has met a foreign character.
-// One octet more than the working frame holds stands for any number above.
+// One octet more than a frame has stands for any number above.
 pub enum Line {
     Whole(usize),
     Half(usize, u8),
     Foreign,
 }
+
+// The octets that a frame has at most.
+pub(crate) const LONGEST: usize = 1514;
 
 // What a line comes to: so many octets, or no hexadecimal.
 pub enum Decoded {
@@ -41,18 +44,35 @@ fn value_of(c: u8) -> u8
     16
 }
 
-// The octet of two digits, stored where the frame has room, and the line after it.
+// The octets that a working frame holds: as many as it has, and no more than a frame.
+pub(crate) fn held(frame: &[u8]) -> usize
+    ensures { λ r. ⌜ r ≡ held (now (frame .entry)) ⌝ }
+{
+    if frame.len() < LONGEST {
+        return frame.len();
+    }
+    LONGEST
+}
+
+// One octet more, up to the one that stands for any number above.
+fn counted(octets: usize) -> usize
+    ensures { λ r. ⌜ r ≡ counted octets ⌝ }
+{
+    if octets <= LONGEST {
+        return octets + 1;
+    }
+    octets
+}
+
+// The octet of two digits, stored where the working frame holds it, and the line after it.
 fn with_octet(octets: usize, high: u8, low: u8, frame: &mut [u8]) -> Line
     requires { ⌜ low ≤ 15 ⌝ }
-    ensures { λ r. ⌜ (r ≡ Line.Whole (counted (length (now (frame .entry))) octets)) × (now (frame .exit) ≡ set (now (frame .entry)) octets (high % 16 * 16 + low)) ⌝ }
+    ensures { λ r. ⌜ (r ≡ Line.Whole (counted octets)) × (now (frame .exit) ≡ keep (now (frame .entry)) octets (high % 16 * 16 + low)) ⌝ }
 {
-    if frame.len() < octets {
-        return Line::Whole(octets);
-    }
-    if octets < frame.len() {
+    if octets < held(frame) {
         frame[octets] = (high % 16) * 16 + low;
     }
-    Line::Whole(octets + 1)
+    Line::Whole(counted(octets))
 }
 
 impl Line {
@@ -84,7 +104,7 @@ impl Line {
 
     // One character more.
     fn with(self, frame: &mut [u8], c: u8) -> Line
-        ensures { λ r. ⌜ (r ≡ lineWith (length (now (frame .entry))) self c) × (now (frame .exit) ≡ frameWith (now (frame .entry)) self c) ⌝ }
+        ensures { λ r. ⌜ (r ≡ lineWith self c) × (now (frame .exit) ≡ frameWith (now (frame .entry)) self c) ⌝ }
     {
         let value = value_of(c);
         if 15 < value {
@@ -98,14 +118,15 @@ impl Line {
     }
 }
 
-// The octets that a piece has from `at` as two digits each, as far as the frame has room for them.
+// The octets that a piece has from `at` as two digits each, as far as the working frame holds them.
 fn take_octets(octets: usize, frame: &mut [u8], piece: &[u8], at: usize) -> Scanned
     requires { ⌜ at ≤ length (now piece) ⌝ }
     ensures { λ r. ⌜ Scans (now (piece .entry)) (Line.Whole octets) (now (frame .entry)) at r (now (frame .exit)) ⌝ }
 {
+    let room = held(frame);
     let mut octets = octets;
     let mut at = at;
-    while octets < frame.len() {
+    while octets < room {
         if piece.len() - at < 2 {
             break;
         }

@@ -1,3 +1,4 @@
--- What the promises of text cite.
+-- What the promises of text cite; Pieces is for the crates above that take an input in pieces.
 pub mod Decimal
 pub mod Put
+pub mod Pieces

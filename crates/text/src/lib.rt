@@ -3,8 +3,10 @@
 // Every writer here promises the same: where its text fits from octet `at`, it is stored there and the octet after
 // it is the result; where it does not fit, nothing is stored and `at` is the result.
 mod decimal;
+mod room;
 mod words;
 
 pub use decimal::digits;
 pub use decimal::put_decimal;
+pub use room::room_from;
 pub use words::put_words;

@@ -9,13 +9,18 @@ use oam_tests::generate::{any_frame, mixed_lines, of_frame, spoilt, Line};
 use oam_tests::paper::{answer, answers, code, lines, listing};
 use oam_tests::random::{seed_from_clock, Random};
 use std::collections::BTreeMap;
+use std::time::Duration;
 
 const FRAMES: u64 = 200_000;
 /// Frames that are also fed octet by octet.
 const FEW_FRAMES: usize = 300;
 const LONGEST_PIECE: usize = 70_000;
+/// Empty lines, whose rows are many times longer than they are.
+const EMPTY_LINES: usize = 50_000;
 /// Differing rows that are shown.
 const SHOWN: usize = 5;
+/// How long a row may take that is awaited before the next line is fed.
+const PATIENCE: Duration = Duration::from_secs(20);
 
 pub fn run(arguments: &Arguments) -> Outcome {
     let program = arguments.program()?;
@@ -32,7 +37,9 @@ pub fn run(arguments: &Arguments) -> Outcome {
     let trial = Trial { program, seed };
     trial.many(&many, &mut random)?;
     trial.octet_by_octet(&few)?;
+    trial.short()?;
     trial.tiny()?;
+    trial.live()?;
     println!("no difference");
     Ok(())
 }
@@ -143,6 +150,14 @@ impl Trial {
         self.judge("octet by octet", input, &ran)
     }
 
+    /// Far more rows than an output of the input's length has room for.
+    fn short(&self) -> Outcome {
+        let input = vec![b'\n'; EMPTY_LINES];
+        let file = TemporaryFile::holding("short", &input)?;
+        let ran = self.program.run_on_file(file.path())?;
+        self.judge("as empty lines", &input, &ran)
+    }
+
     fn tiny(&self) -> Outcome {
         let inputs = tiny_inputs();
         for input in &inputs {
@@ -150,6 +165,25 @@ impl Trial {
             self.compare(&format!("{input:?}"), input.as_bytes(), &ran)?;
         }
         println!("agrees on {} tiny inputs", inputs.len());
+        Ok(())
+    }
+
+    /// A line's row is written before the next line is asked for, and the header
+    /// before the first.
+    fn live(&self) -> Outcome {
+        let lines = paper_lines().map(|line| format!("{line}\n"));
+        let pieces = lines.each_ref().map(|line| line.as_bytes());
+        let due = |fed: usize| listing(&pieces[..fed].concat());
+        let output = self
+            .program
+            .run_live(&pieces, |fed| due(fed).len(), PATIENCE)?;
+        if output != due(pieces.len()) {
+            let output = String::from_utf8_lossy(&output);
+            return Err(
+                format!("rows are kept back: before the input's end came {output:?}").into(),
+            );
+        }
+        println!("lists a live input as it comes");
         Ok(())
     }
 

@@ -1,10 +1,12 @@
-//! Running a lister as a process: fed from a file, or through a pipe in pieces.
+//! Running a lister as a process: fed from a file, through a pipe in pieces, or
+//! one piece after the answer to the last.
 
 use std::error::Error;
 use std::fs::{self, File};
 use std::io::{self, Read, Write};
 use std::path::{Path, PathBuf};
 use std::process::{Child, Command, ExitStatus, Stdio};
+use std::sync::mpsc::{channel, Receiver};
 use std::thread;
 use std::time::{Duration, Instant};
 
@@ -63,6 +65,35 @@ impl Program {
         })
     }
 
+    /// Runs the program and writes each piece to it only after it has written so
+    /// many octets as `expected` gives for the pieces before. What it wrote
+    /// within `patience` of the last piece is given.
+    pub fn run_live(
+        &self,
+        pieces: &[&[u8]],
+        expected: impl Fn(usize) -> usize,
+        patience: Duration,
+    ) -> Result<Vec<u8>, Box<dyn Error>> {
+        let mut child = self.spawn(Stdio::piped(), Stdio::piped())?;
+        let mut pipe = child.stdin.take().expect("standard input is a pipe");
+        let written = octets_of(child.stdout.take().expect("standard output is a pipe"));
+        let mut output = Vec::new();
+        for fed in 0..=pieces.len() {
+            while output.len() < expected(fed) {
+                match written.recv_timeout(patience) {
+                    Ok(octets) => output.extend(octets),
+                    Err(_) => break,
+                }
+            }
+            if let Some(piece) = pieces.get(fed) {
+                pipe.write_all(piece)?;
+            }
+        }
+        drop(pipe);
+        child.wait()?;
+        Ok(output)
+    }
+
     /// The time of a run on a file, the output thrown away.
     pub fn time(&self, input: &Path) -> Result<Duration, Box<dyn Error>> {
         let input = File::open(input)?;
@@ -83,6 +114,20 @@ impl Program {
             .spawn()
             .map_err(|error| format!("{}: {error}", self.path.display()).into())
     }
+}
+
+/// What comes from a pipe, as it comes.
+fn octets_of(mut pipe: impl Read + Send + 'static) -> Receiver<Vec<u8>> {
+    let (sender, receiver) = channel();
+    thread::spawn(move || {
+        let mut octets = [0; 4096];
+        while let Ok(count @ 1..) = pipe.read(&mut octets) {
+            if sender.send(octets[..count].to_vec()).is_err() {
+                return;
+            }
+        }
+    });
+    receiver
 }
 
 fn read_output(child: &mut Child) -> io::Result<Vec<u8>> {
@@ -158,6 +203,21 @@ mod tests {
         })
         .expect("fed");
         assert_eq!(writes.0, [&b"abc"[..], b"d", b"efg"]);
+    }
+
+    #[test]
+    fn a_program_that_answers_at_once_is_seen_to() {
+        let echo = Program::new("cat", &[]);
+        let pieces = [&b"one"[..], b"two"];
+        let output = echo.run_live(&pieces, |fed| 3 * fed, Duration::from_secs(10));
+        assert_eq!(output.expect("ran"), b"onetwo");
+    }
+
+    #[test]
+    fn a_program_that_answers_at_the_end_is_not_waited_for() {
+        let late = Program::new("sort", &[]);
+        let output = late.run_live(&[b"one\n"], |fed| 4 * fed, Duration::from_millis(100));
+        assert_eq!(output.expect("ran"), b"");
     }
 
     #[test]

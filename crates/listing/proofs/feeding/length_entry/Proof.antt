@@ -1,28 +1,46 @@
 -- `listing::feeding::length_entry` meets its contract.
 -- Assumes nothing.
 use mathlib.Core.Path.{sym, _∙_}
+use native.Mathlib.Omega.{arith}
 use borrow.Author.Tests.{le-leb, lt-leb}
 use denote.Ref.{now}
 use lib.Seq.{length-take-le}
+use Rattle.listing.specs.Taking.{held}
 use borrow.Author.Needs.{needs}
 use Rattle.listing.proofs.feeding.length_entry.Statement.{statement}
 use Rattle.listing.proofs.feeding.length_entry.Tie as tie
 
+held-requires : tie.Need-held-requires
+held-requires c κs = search needs
+
 slice-aggregate-frame-entry : tie.Need-slice-aggregate-frame-entry
 slice-aggregate-frame-entry c =
-    let a = c .before .before .before .args in
-    sym (length-take-le (a .length) (now (a .frame)) (c .before .if1 .taken))
+    let a = c .before .before .before .before .args in
+    sym (length-take-le (a .length) (now (a .frame)) (omega (arith, c .before .if1 .taken, c .before .before .held .ensures)))
 
 frame-entry-requires : tie.Need-frame-entry-requires
 frame-entry-requires c κs = search needs
 
 returns : tie.Need-returns
 returns c =
-    c .frame-entry .ensures ∙ simp (le-leb _ _ (c .before .before .if1 .taken))
+    let a = c .before .before .before .before .before .args in
+    c .frame-entry .ensures ∙ simp (le-leb (a .length) (held (now (a .frame))) (omega (arith, c .before .before .if1 .taken, c .before .before .before .held .ensures)))
+
+too-many-requires : tie.Need-too-many-requires
+too-many-requires c κs = search needs
 
 returns-2 : tie.Need-returns-2
-returns-2 c = simp (lt-leb _ _ (c .if1 .left))
+returns-2 c =
+    let a = c .before .before .before .before .args in
+    rw (c .too-many .ensures, lt-leb (a .length) (held (now (a .frame))) (omega (arith, c .before .if1 .left, c .before .before .held .ensures)))
 
 pub length-entry-spec : {M : Type 1} → statement M
 length-entry-spec =
-    tie.close (tie.spec slice-aggregate-frame-entry frame-entry-requires returns returns-2)
+    tie.close
+    (tie.spec
+    held-requires
+    slice-aggregate-frame-entry
+    frame-entry-requires
+    returns
+    too-many-requires
+    returns-2)

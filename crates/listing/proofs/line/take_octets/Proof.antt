@@ -1,24 +1,27 @@
 -- `listing::line::take_octets` meets its contract. The invariant: from where it stands the call comes to the same.
 -- Assumes nothing.
-use Prim.Native.Nat.{_+_, _-_, _≤_}
+use Prim.Native.Nat.{_+_, _-_, _≤_, _<_}
 use mathlib.Core.Path.{_≡_, _∙_}
 use native.Mathlib.Omega.{arith}
 use borrow.Author.Needs.{needs}
 use denote.Ref.{now}
 use lib.ListN.{length, getD, length-set}
 use Rattle.listing.specs.declared.line.Line.the-variants.{Whole}
-use Rattle.listing.specs.Taking.{valueOf}
+use Rattle.listing.specs.Taking.{valueOf, held}
 use Rattle.listing.specs.Feeding.{Leads}
 use Rattle.listing.proofs.Leading.{octet-taken}
 use Rattle.listing.proofs.line.take_octets.Statement.{statement}
 use Rattle.listing.proofs.line.take_octets.Tie as tie
 
 abbrev Inv-loop : tie.InvT-loop
-Inv-loop octets frame₀ piece at octets₀ at₀ frame octets' at' =
+Inv-loop octets frame₀ piece at room octets₀ at₀ frame octets' at' =
     (length frame ≡ length frame₀) × (at ≤ at') × (at' ≤ length piece) × Leads piece (Whole octets) frame₀ at (Whole octets') frame at'
 
 abbrev μ-loop : tie.MeasureT-loop
-μ-loop octets frame₀ piece at octets₀ at₀ frame octets' at' = length frame - octets'
+μ-loop octets frame₀ piece at room octets₀ at₀ frame octets' at' = room - octets'
+
+held-requires : tie.Need-held-requires Inv-loop μ-loop
+held-requires c κs = search needs
 
 loop-holds : tie.Need-loop-holds Inv-loop μ-loop
 loop-holds c = search needs
@@ -57,21 +60,22 @@ add-at : tie.Need-add-at Inv-loop μ-loop
 add-at c = search needs
 
 loop-less : tie.Need-loop-less Inv-loop μ-loop
-loop-less c = simp length-set (omega arith)
+loop-less c = search needs
 
 loop-again : tie.Need-loop-again Inv-loop μ-loop
 loop-again c =
-    let a = c .before .before .before .before .before .before .before .before .before .before .before .args in
+    let a = c .before .before .before .before .before .before .before .before .before .before .before .before .before .args in
     let l = c .before .before .before .before .before .before .before .before .loop in
     let piece = now (a .piece) in
     let high : c .before .before .before .before .value-of .result ≡ valueOf (getD piece (l .at) 0) = c .before .before .before .before .value-of .ensures in
-    let low : c .before .before .value-of2 .result ≡ valueOf (getD piece (l .at + 1) 0) = c .before .before .value-of2 .ensures in (
+    let low : c .before .before .value-of2 .result ≡ valueOf (getD piece (l .at + 1) 0) = c .before .before .value-of2 .ensures in
+    let holds : l .octets < held (l .frame) = omega (arith, c .before .before .before .before .before .before .before .loop-test .taken, c .before .before .before .before .before .before .before .before .before .held .ensures, l .inv .0) in (
       simp length-set (l .inv .0),
       omega arith,
       omega arith,
       λ room number said.
           l .inv .3 room number said
-          ∙ rw (high, low) (octet-taken piece (l .frame) (l .octets) (l .at) (omega arith) (c .before .before .before .before .before .before .before .loop-test .taken) (omega arith) (omega arith) room number said),
+          ∙ rw (high, low) (octet-taken piece (l .frame) (l .octets) (l .at) (omega arith) holds (omega arith) (omega arith) room number said),
     )
 
 same-length : tie.Need-same-length Inv-loop μ-loop
@@ -104,6 +108,7 @@ take-octets-spec =
     (tie.spec
     Inv-loop
     μ-loop
+    held-requires
     loop-holds
     sub-if1
     shared-slice-read-value-of
