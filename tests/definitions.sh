@@ -2,7 +2,9 @@
 # Changes the machine's definitions, one at a time, and sees that the theorems of `reach` and `pair` no longer hold. `rt
 # must-fail` cannot do this: it changes and proves one crate alone, and the definitions are those of the crates below. Here their
 # code is left out (its contracts would fail before any theorem), so that what is tried is the theorems. Each edit is a file in
-# tests/definitions, in the form of the must-fail edits. Run after `rt check pair`, whose proofs of `writer` and of what stands below it are used.
+# tests/definitions, in the form of the must-fail edits, with one line more: the theorem that does not hold of the changed
+# definition, and in its comment why. A lemma that fails may need only another proof, so the names of those are printed, and the
+# theorem must be among what is lost with them. Run after `rt check pair`, whose proofs of `writer` and of what stands below it are used.
 set -euo pipefail
 cd "$(dirname "$0")/.."
 edits="$PWD/tests/definitions"
@@ -41,19 +43,27 @@ failed=0
 for edit in "$edits"/*.edit; do
   name=$(basename "$edit" .edit)
   file=$(line file "$edit")
-  old=$(line old "$edit") new=$(line new "$edit")
+  old=$(line old "$edit") new=$(line new "$edit") theorem=$(line theorem "$edit")
   [ "$(grep -cxF -- "$old" "$file")" = 1 ] || { echo "definitions: $name: its old line stands not once"; exit 1; }
   cp "$file" before
   OLD="$old" NEW="$new" awk '{ print $0 == ENVIRON["OLD"] ? ENVIRON["NEW"] : $0 }' before > "$file"
   status=0
   rt check pair > log 2>&1 || status=$?
   cp before "$file"
-  first=$(grep -a -o -m1 -E 'crates/(reach|pair)/proofs/[A-Za-z]+\.antt:[0-9]+:[0-9]+: error' log || true)
-  if [ "$status" = 1 ] && [ -n "$first" ] && ! grep -a -q 'is not in scope' log; then
-    echo "definitions: $name: refused, as it must be (first at ${first%: error})"
-  else
+  # What fails for itself, and what is lost with it; antt names the definition that an error stands in.
+  broken=$(grep -a -o -E 'crates/(reach|pair)/proofs/[A-Za-z]+\.antt:[0-9]+:[0-9]+: error: `[^`]+`.*' log || true)
+  first=$(printf '%s\n' "$broken" | head -n 1 | sed 's/: error: .*//')
+  names=$(printf '%s\n' "$broken" | grep -v 'was not admitted' | sed -E 's/.*: error: `([^`]+)`.*/\1/' | sort -u | paste -s -d ' ' || true)
+  if [ "$status" != 1 ] || [ -z "$names" ] || grep -a -q 'is not in scope' log; then
     echo "definitions: $name: NOT refused by a theorem (exit $status)"
     failed=1
+  elif [ -z "$theorem" ]; then
+    echo "definitions: $name: refused, as it must be, in $names (first at $first), and no theorem is known to break"
+  elif ! printf '%s\n' "$broken" | grep -q -F ": error: \`$theorem\`"; then
+    echo "definitions: $name: refused in $names (first at $first), and \`$theorem\` is NOT lost with it"
+    failed=1
+  else
+    echo "definitions: $name: refused, as it must be, in $names (first at $first), and \`$theorem\` is lost with it"
   fi
 done
 exit "$failed"

@@ -1,5 +1,5 @@
 //! The documents against the repository: every link leads somewhere, every name stands in the file that is said to have it,
-//! every public function is among the promises, and none has a condition on its caller.
+//! every public function is among the promises of its crate, has a contract, and has no condition on its caller.
 
 use std::fs;
 use std::path::{Path, PathBuf};
@@ -66,6 +66,16 @@ fn names_before(before: &str) -> Vec<&str> {
     names
 }
 
+/// Whether a name stands in a text as a whole, and not as a part of another name.
+fn stands_in(text: &str, name: &str) -> bool {
+    let of_a_name = |c: char| c.is_alphanumeric() || matches!(c, '_' | '-' | '\'');
+    text.match_indices(name).any(|(at, _)| {
+        let before = text[..at].chars().next_back();
+        let after = text[at + name.len()..].chars().next();
+        !before.is_some_and(of_a_name) && !after.is_some_and(of_a_name)
+    })
+}
+
 #[test]
 fn every_link_leads_to_what_it_says() {
     let mut checked = 0;
@@ -79,7 +89,7 @@ fn every_link_leads_to_what_it_says() {
             let path = folder.join(target);
             assert!(path.exists(), "{}: no {target}", document.display());
             for name in names_before(before) {
-                let has = text(&path).contains(name) || target.contains(name);
+                let has = stands_in(&text(&path), name) || stands_in(target, name);
                 assert!(
                     has,
                     "{}: `{name}` does not stand in {target}",
@@ -92,72 +102,215 @@ fn every_link_leads_to_what_it_says() {
     assert!(checked > 30, "only {checked} names were found to look for");
 }
 
-/// A public function: its name, and the lines of its contract.
+/// A public function: its name, its result's type, and the clauses of its contract.
 struct Public {
     name: String,
-    contract: Vec<String>,
+    result: String,
+    clauses: Vec<String>,
+}
+
+impl Public {
+    fn has(&self, clause: &str) -> bool {
+        self.clauses.iter().any(|c| c == clause)
+    }
+}
+
+/// A source text without its comments.
+fn code(written: &str) -> String {
+    let before = |line: &str| line.split("//").next().unwrap_or("").to_string();
+    let lines: Vec<String> = written.lines().map(before).collect();
+    lines.join("\n")
+}
+
+/// The text behind the bracket that closes the one with which it begins.
+fn behind_bracket(text: &str) -> &str {
+    let mut depth = 0;
+    for (at, c) in text.char_indices() {
+        match c {
+            '(' | '{' => depth += 1,
+            ')' | '}' => depth -= 1,
+            _ => {}
+        }
+        if depth == 0 {
+            return &text[at + c.len_utf8()..];
+        }
+    }
+    panic!("a bracket is not closed: {text}");
 }
 
 /// The public functions of a source text.
 fn public_functions(written: &str) -> Vec<Public> {
-    let mut found = Vec::new();
-    let mut lines = written.lines();
-    while let Some(line) = lines.next() {
-        let item = line.trim_start();
-        let after = item
-            .strip_prefix("pub extern \"C\" fn ")
-            .or(item.strip_prefix("pub fn "));
-        if let Some(after) = after {
-            let name = after.split('(').next().unwrap_or(after).to_string();
-            let contract = lines.by_ref().take_while(|l| l.trim() != "{");
-            let contract = contract.map(|l| l.trim_start().to_string()).collect();
-            found.push(Public { name, contract });
-        }
+    let code = code(written);
+    let marks = ["pub fn ", "pub extern \"C\" fn "];
+    let starts = marks.iter().flat_map(|mark| {
+        let found = code.match_indices(mark);
+        found.map(|(at, mark)| at + mark.len())
+    });
+    let mut starts: Vec<usize> = starts.collect();
+    starts.sort_unstable();
+    starts.iter().map(|&at| public_at(&code[at..])).collect()
+}
+
+/// The function whose name begins a text. Its contract ends where its body begins, with the first bracket that no clause
+/// has opened.
+fn public_at(text: &str) -> Public {
+    let open = text.find('(').expect("a function has parameters");
+    let mut rest = behind_bracket(&text[open..]);
+    let mut result = None;
+    let mut clauses = Vec::new();
+    loop {
+        let brace = rest.find('{').expect("a function has a body");
+        let (clause, before) = ["requires", "ensures"]
+            .iter()
+            .find_map(|c| Some((Some(*c), rest[..brace].trim_end().strip_suffix(c)?)))
+            .unwrap_or((None, &rest[..brace]));
+        result.get_or_insert_with(|| before.trim().trim_start_matches("-> ").to_string());
+        let Some(clause) = clause else { break };
+        clauses.push(clause.to_string());
+        rest = behind_bracket(&rest[brace..]);
     }
+    Public {
+        name: text[..open].to_string(),
+        result: result.unwrap_or_default(),
+        clauses,
+    }
+}
+
+/// The crates with the public functions of each.
+fn all_public_functions() -> Vec<(String, Vec<Public>)> {
+    let crates = fs::read_dir(repository().join("crates")).expect("the crates can be listed");
+    let found: Vec<(String, Vec<Public>)> = crates
+        .map(|entry| {
+            let folder = entry.expect("an entry can be read");
+            let name = folder.file_name().to_string_lossy().into_owned();
+            let sources = files(&folder.path(), "rt");
+            let each = sources.iter().flat_map(|s| public_functions(&text(s)));
+            (name, each.collect())
+        })
+        .collect();
+    let count: usize = found.iter().map(|(_, functions)| functions.len()).sum();
+    assert!(count > 100, "only {count} public functions were found");
     found
 }
 
-fn all_public_functions() -> Vec<Public> {
-    let sources = files(&repository().join("crates"), "rt");
-    let found: Vec<Public> = sources
-        .iter()
-        .flat_map(|s| public_functions(&text(s)))
-        .collect();
-    assert!(
-        found.len() > 100,
-        "only {} public functions were found",
-        found.len()
-    );
-    found
+/// What is wrong with the contracts of some functions.
+fn contract_faults(functions: &[Public]) -> Vec<String> {
+    let conditions = functions.iter().filter(|f| f.has("requires"));
+    let silences = functions.iter().filter(|f| !f.has("ensures"));
+    conditions
+        .map(|f| format!("{} has a condition on its caller", f.name))
+        .chain(silences.map(|f| format!("{} promises nothing", f.name)))
+        .collect()
 }
 
 #[test]
 fn no_public_function_has_a_condition() {
-    for Public { name, contract } in all_public_functions() {
-        let has = |clause: &str| contract.iter().any(|l| l.starts_with(clause));
-        assert!(!has("requires"), "{name} has a condition on its caller");
-        assert!(has("ensures"), "{name} promises nothing");
+    for (_, functions) in all_public_functions() {
+        assert_eq!(contract_faults(&functions), Vec::<String>::new());
     }
+}
+
+/// The part of a document under a heading.
+fn section<'a>(document: &'a str, heading: &str) -> &'a str {
+    let line = format!("\n## {heading}\n");
+    let Some(start) = document.find(&line) else {
+        return "";
+    };
+    let under = &document[start + line.len()..];
+    under.split("\n## ").next().unwrap_or(under)
+}
+
+/// The functions that a text names: the head of each of its code spans, as `octet` of `Role::octet` and `event_step` of
+/// `event_step(body, at)`. What stands in the brackets is no function's mention.
+fn functions_named(text: &str) -> Vec<&str> {
+    let spans = text.split('`').skip(1).step_by(2);
+    spans
+        .map(|span| {
+            let head = span.split('(').next().unwrap_or(span);
+            head.rsplit("::").next().unwrap_or(head)
+        })
+        .collect()
+}
+
+/// Those of some functions that a text does not name.
+fn not_named<'a>(text: &str, functions: &'a [Public]) -> Vec<&'a str> {
+    let named = functions_named(text);
+    let names = functions.iter().map(|f| f.name.as_str());
+    names.filter(|name| !named.contains(name)).collect()
 }
 
 #[test]
 fn every_public_function_is_among_the_promises() {
     let promises = text(&repository().join("docs/PROMISES.md"));
-    let is_named = |name: &str| {
-        let named = |mark: &str| promises.contains(&format!("{name}{mark}"));
-        named("`") || named("(")
-    };
-    for Public { name, .. } in all_public_functions() {
-        assert!(is_named(&name), "{name} is not in docs/PROMISES.md");
+    for (name, functions) in all_public_functions() {
+        let missing = not_named(section(&promises, &name), &functions);
+        assert!(
+            missing.is_empty(),
+            "docs/PROMISES.md does not name {missing:?} of {name}"
+        );
     }
 }
 
+const MADE_UP: &str = "\
+pub fn a(n: u8)
+    requires { x }
+    ensures { λ r. ⌜ r ≡ {n} ⌝ }
+{
+}
+fn b() {
+}
+// pub fn told(n: u8) {
+pub fn silent(n: u8) -> Option<u8> {
+    n
+}
+pub extern \"C\" fn c(
+    n: u8,
+) -> u8
+    ensures { y }
+{
+}
+    pub fn lines(
+        self,
+    ) {
+    }
+pub fn d()
+    ensures { z }
+{
+}
+";
+
 #[test]
 fn a_condition_and_a_silence_are_seen() {
-    let source = "pub fn a(n: u8)\n    requires { x }\n{\n}\nfn b() {\n}\npub extern \"C\" fn c(\n    n: u8,\n)\n    ensures { y }\n{\n}\n";
-    let found = public_functions(source);
-    let names: Vec<&str> = found.iter().map(|p| p.name.as_str()).collect();
-    assert_eq!(names, ["a", "c"]);
-    assert_eq!(found[0].contract, ["requires { x }"]);
-    assert!(found[1].contract.contains(&"ensures { y }".to_string()));
+    let found = public_functions(MADE_UP);
+    let told = |p: &Public| (p.name.clone(), p.result.clone(), p.clauses.join(" "));
+    let told: Vec<(String, String, String)> = found.iter().map(told).collect();
+    let expected = [
+        ("a", "", "requires ensures"),
+        ("silent", "Option<u8>", ""),
+        ("c", "u8", "ensures"),
+        ("lines", "", ""),
+        ("d", "", "ensures"),
+    ];
+    let expected = expected.map(|(a, b, c)| (a.to_string(), b.to_string(), c.to_string()));
+    assert_eq!(told, expected);
+    let faults = [
+        "a has a condition on its caller",
+        "silent promises nothing",
+        "lines promises nothing",
+    ];
+    assert_eq!(contract_faults(&found), faults);
+}
+
+#[test]
+fn a_part_of_another_name_is_no_mention() {
+    assert!(stands_in("`role_stays` and Role", "role_stays"));
+    assert!(stands_in("must-fail/role_stays.edit", "role_stays"));
+    for text in ["role_stays_not", "a_role_stays", "role_stays-not", "stays"] {
+        assert!(!stands_in(text, "role_stays"), "{text}");
+    }
+    let document = "\n## other\n`a`\n## crate\n`oam_a(c)`, `silent_d`, `Type::lines`, `c(d)`, a\n## last\n`d`\n";
+    let functions = public_functions(MADE_UP);
+    let missing = not_named(section(document, "crate"), &functions);
+    assert_eq!(missing, ["a", "silent", "d"]);
+    assert_eq!(section(document, "cra"), "");
 }

@@ -4,7 +4,7 @@
 use super::{Call, Machine, RECEIVED, STATE_OCTETS};
 use crate::library::by_paper::{header_of, stored};
 use crate::library::ByPaper;
-use crate::paper::machine::{End, Settings, Shown, Step, END_NUMBERS, PACKED_NUMBERS};
+use crate::paper::machine::{Breach, End, Settings, Shown, Step, END_NUMBERS, PACKED_NUMBERS};
 use crate::paper::{answer, joined, read};
 
 /// The octets in which each number of an end is packed.
@@ -29,32 +29,41 @@ impl Machine for ByPaper {
     }
 
     fn call(&self, call: &Call, header: &mut [u64], state: &mut [u8], out: &mut [u8]) -> u64 {
-        let Some(end) = unpacked(state) else {
-            return answer::VALUES.into();
-        };
-        match call {
-            Call::Report(number) if *number > 5 => return answer::VALUES.into(),
-            Call::Receive(_) if header.len() < RECEIVED => return answer::OUTPUT.into(),
-            _ => {}
-        }
-        match call.step(&end, out) {
-            Ok(step) => {
-                state.copy_from_slice(&packed(&step.end));
-                if let Call::Receive(frame) = call {
-                    header[..RECEIVED].copy_from_slice(&received(frame, step.shown));
-                }
-                outcome(answer::ACCEPTED, &step)
-            }
-            Err(refusal) => outcome(refusal, &unmoved(end)),
+        match unpacked(state) {
+            Some(end) => called(end, call, header, state, out),
+            None => answer::VALUES.into(),
         }
     }
 
     fn show(&self, state: &[u8], numbers: &mut [u64]) -> u64 {
-        match (unpacked(state), numbers.get_mut(..END_NUMBERS)) {
-            (None, _) => answer::VALUES.into(),
-            (Some(_), None) => answer::OUTPUT.into(),
-            (Some(end), Some(room)) => stored(Ok(end.numbers()), room),
+        shown(unpacked(state), numbers)
+    }
+}
+
+/// Makes a call of an end, and stores the next one.
+pub fn called(end: End, call: &Call, header: &mut [u64], state: &mut [u8], out: &mut [u8]) -> u64 {
+    let step = match call {
+        Call::Receive(_) if header.len() < RECEIVED => Err(answer::OUTPUT),
+        _ => call.step(&end, out),
+    };
+    match step {
+        Ok(step) => {
+            state.copy_from_slice(&packed(&step.end));
+            if let Call::Receive(frame) = call {
+                header[..RECEIVED].copy_from_slice(&received(frame, step.shown));
+            }
+            outcome(answer::ACCEPTED, &step)
         }
+        Err(refusal) => outcome(refusal, &unmoved(end)),
+    }
+}
+
+/// Stores the numbers of an end, if there is one.
+pub fn shown(end: Option<End>, numbers: &mut [u64]) -> u64 {
+    match (end, numbers.get_mut(..END_NUMBERS)) {
+        (None, _) => answer::VALUES.into(),
+        (Some(_), None) => answer::OUTPUT.into(),
+        (Some(end), Some(room)) => stored(Ok(end.numbers()), room),
     }
 }
 
@@ -97,17 +106,24 @@ pub fn packed(end: &End) -> [u8; STATE_OCTETS] {
     state
 }
 
-/// The end in a state's octets, if there is one.
+/// The end in a state's octets, if there is one that calls make.
 pub fn unpacked(state: &[u8]) -> Option<End> {
+    unpacked_with(state, &[])
+}
+
+/// The same, where an end may also break these rules.
+pub fn unpacked_with(state: &[u8], breaches: &[Breach]) -> Option<End> {
     if state.len() != STATE_OCTETS {
         return None;
     }
     let mut rest = state;
-    End::at_rest(&WIDTHS.map(|width| {
+    let numbers = WIDTHS.map(|width| {
         let (here, behind) = rest.split_at(width);
         rest = behind;
         joined(here)
-    }))
+    });
+    let allowed = |end: &End| end.breaches().iter().all(|b| breaches.contains(b));
+    End::at_rest(&numbers).filter(allowed)
 }
 
 #[cfg(test)]
@@ -183,23 +199,41 @@ mod tests {
         assert_eq!(state[41..43], [0, 1]); // the revision
     }
 
-    /// What is tested before the call has no octet in its answer.
+    /// The state first, then the report's number or the header, then the output,
+    /// then the frame.
     #[test]
-    fn a_bad_state_report_or_header_is_its_number_alone() {
+    fn a_bad_state_is_its_number_alone_and_comes_first() {
         let mut state = looping();
-        assert_eq!(call(&Call::Report(6), &mut state, 0), 10);
+        let octet = 5 << 40;
+        assert_eq!(call(&Call::Report(6), &mut state, 0), octet | 10);
+        assert_eq!(call(&Call::Report(0), &mut state, 0), octet | 9);
         let received = Call::Receive(vec![]);
-        let mut receive = |room: usize| {
-            let header = &mut [OLD; 5][..room];
-            ByPaper.call(&received, header, &mut state, &mut [0; 60])
+        let receive = |state: &mut [u8], header: usize, out: usize| {
+            let header = &mut [OLD; 5][..header];
+            ByPaper.call(&received, header, state, &mut vec![0; out])
         };
-        assert_eq!(receive(3), 9);
-        assert_eq!(receive(4), 5 << 40 | 1);
+        assert_eq!(receive(&mut state, 3, 60), octet | 9);
+        assert_eq!(receive(&mut state, 4, 59), octet | 9);
+        assert_eq!(receive(&mut state, 4, 60), octet | 1);
         state[20] = 2; // neither held nor not
         assert_eq!(call(&Call::Tick, &mut state, 60), 10);
-        assert_eq!(call(&Call::Report(6), &mut state, 60), 10);
+        assert_eq!(call(&Call::Report(6), &mut state, 0), 10);
+        assert_eq!(receive(&mut state, 3, 0), 10);
         assert_eq!(ByPaper.show(&state, &mut []), 10);
         assert_eq!(ByPaper.show(&fresh(), &mut [0; 27]), 9);
+    }
+
+    /// No calls make an end that loops without bit 2 of its own.
+    #[test]
+    fn an_end_that_no_calls_make_is_refused() {
+        let mut state = looping();
+        state[0] &= !4; // the configuration
+        assert_eq!(unpacked(&state), None);
+        assert_eq!(call(&Call::Tick, &mut state, 60), 10);
+        assert_eq!(ByPaper.show(&state, &mut [0; 28]), 10);
+        let loops = unpacked_with(&state, &[Breach::LoopingWithoutBit2]);
+        assert_eq!(loops.map(|end| packed(&end)), Some(state));
+        assert_eq!(unpacked_with(&state, &[Breach::EventWithoutRecord]), None);
     }
 
     #[test]

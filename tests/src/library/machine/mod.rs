@@ -7,7 +7,7 @@ mod archive;
 mod by_paper;
 mod call;
 
-pub use by_paper::{packed, unpacked};
+pub use by_paper::{called, packed, shown, unpacked, unpacked_with};
 pub use call::Call;
 
 use crate::paper::machine::Settings;
@@ -24,8 +24,8 @@ pub trait Machine {
     /// state of another length.
     fn fresh(&self, settings: &Settings, state: &mut [u8]) -> u64;
 
-    /// Makes a call, and gives its outcome. A state that is none is 10 alone, as
-    /// is then a report that is none; a header too short is 9 alone.
+    /// Makes a call, and gives its outcome. A state that is none is 10 alone; then
+    /// a report that is none is 10, and a header too short is 9.
     fn call(&self, call: &Call, header: &mut [u64], state: &mut [u8], out: &mut [u8]) -> u64;
 
     /// Stores an end's numbers: 0, or 10 for a state that is none, then 9 for too

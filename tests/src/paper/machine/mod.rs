@@ -10,6 +10,7 @@ mod numbers;
 mod requests;
 mod sending;
 mod settings;
+mod unmade;
 
 #[cfg(test)]
 mod tests;
@@ -21,6 +22,7 @@ pub use numbers::{END_NUMBERS, PACKED_NUMBERS};
 pub use requests::FCS;
 pub use sending::MOST_FRAMES;
 pub use settings::{configuration, Settings, SIZES, SMALLEST_SIZE};
+pub use unmade::Breach;
 
 use super::answer;
 use super::message::Information;

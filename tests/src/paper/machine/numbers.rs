@@ -29,11 +29,13 @@ impl End {
     }
 
     /// The end that has these numbers. There is none where one of them is beyond
-    /// its range, or where discovery would not rest where they say.
+    /// its range, where discovery would not rest where they say, or where no calls
+    /// make such an end.
     pub fn from_numbers(numbers: &[u64; END_NUMBERS]) -> Option<Self> {
         let (packed, discovery) = numbers.split_first_chunk::<PACKED_NUMBERS>()?;
         let end = End::at_rest(packed)?;
-        (discovery == [end.discovery as u64]).then_some(end)
+        let rests = discovery == [end.discovery as u64];
+        (rests && end.breaches().is_empty()).then_some(end)
     }
 
     /// The end that has these numbers, its discovery where the moves take it. It

@@ -1,17 +1,22 @@
 //! Damaged states: each is refused, and nothing changes, or it is a state, and
-//! then behaves like the paper's machine at the numbers that it shows.
+//! then behaves like the paper's machine at the numbers that it shows. Where the
+//! library lays an end out as docs/DECISIONS.md says, its numbers one after
+//! another, it is also known which of the two must come, and states of ends that
+//! no calls make are made on purpose.
 
 use super::bout::Bout;
 use super::lend;
 use super::played::Played;
+use super::unmade::Unmade;
 use crate::compare::hex;
 use crate::generate::machine::Script;
-use crate::library::machine::{Call, Machine, RECEIVED, STATE_OCTETS};
+use crate::library::machine::{packed, unpacked, Call, Machine, RECEIVED, STATE_OCTETS};
 use crate::paper::answer;
-use crate::paper::machine::{Discovery, End, Role, END_NUMBERS};
+use crate::paper::machine::{End, END_NUMBERS};
 use crate::random::Random;
 use crate::trial::lent::Lent;
 use crate::trial::report::{Report, Tally};
+use crate::trial::turn::Turn;
 
 /// Calls of an end whose state was damaged.
 const CALLS: usize = 12;
@@ -63,8 +68,7 @@ pub struct Damaged {
     /// Calls of a state that is none.
     refused: Tally<&'static str>,
     calls: usize,
-    /// States that no calls lead to, and that were taken all the same.
-    odd: usize,
+    unmade: Unmade,
 }
 
 impl Damaged {
@@ -75,7 +79,7 @@ impl Damaged {
             states: Tally::expecting(refused.into_iter().chain(taken)),
             refused: Tally::expecting(Call::NAMES),
             calls: 0,
-            odd: 0,
+            unmade: Unmade::new(),
         }
     }
 
@@ -86,6 +90,7 @@ impl Damaged {
         script: &mut Script,
         played: &Played,
     ) -> Result<(), String> {
+        let laid_out = played.bout.state() == packed(&played.end());
         for damage in Damage::ALL {
             let mut octets = played.bout.state().to_vec();
             damage.befall(random, &mut octets);
@@ -98,13 +103,20 @@ impl Damaged {
             };
             let shown = shown(library, random, &state).map_err(told)?;
             self.states.count((damage, shown.is_some()));
+            if laid_out && unpacked(&octets).is_some() != shown.is_some() {
+                let does = if shown.is_some() { "takes" } else { "refuses" };
+                return Err(told(format!("oam_show {does} it, and the paper does not")));
+            }
             match shown {
                 None => self.refuse(library, random, script, state, &played.end()),
                 Some(end) => self.play(library, random, script, state, &end),
             }
             .map_err(told)?;
         }
-        Ok(())
+        match laid_out {
+            true => self.unmade.try_one(random, played),
+            false => Ok(()),
+        }
     }
 
     /// A call of a state that is none.
@@ -118,26 +130,9 @@ impl Damaged {
     ) -> Result<(), String> {
         let call = script.call(random, end);
         self.refused.count(call.name());
-        let (turn, _) = lend(random, call, end);
-        let room = random.below(2 * RECEIVED);
-        let header = Lent::numbers(random, room);
-        let out = Lent::octets(random, turn.out);
-        let (mut found_state, mut found_header, mut found_out) =
-            (state.clone(), header.clone(), out.clone());
-        let outcome = library.call(
-            &turn.call,
-            found_header.slice_mut(),
-            found_state.slice_mut(),
-            found_out.slice_mut(),
-        );
-        let kept = state.stray(&found_state).is_none()
-            && header.stray(&found_header).is_none()
-            && out.stray(&found_out).is_none();
-        match (outcome == answer::VALUES.into(), kept) {
-            (true, true) => Ok(()),
-            (false, _) => Err(format!("{turn} gives {outcome:#x} where oam_show gives 10")),
-            (true, false) => Err(format!("{turn} is refused and changes what was lent")),
-        }
+        let (mut turn, _) = lend(random, call, end);
+        turn.header = random.below(2 * RECEIVED);
+        refuses(library, random, &turn, &state)
     }
 
     /// Calls of a state that shows this end.
@@ -149,7 +144,6 @@ impl Damaged {
         state: Lent<u8>,
         end: &End,
     ) -> Result<(), String> {
-        self.odd += usize::from(is_odd(end));
         let mut bout = Bout::at(library, state, end);
         for _ in 0..CALLS {
             let end = bout.end();
@@ -171,12 +165,39 @@ impl Damaged {
             name.to_string()
         });
         report.count(self.calls, "calls of those that still were states");
-        report.count(self.odd, "of these were such as no calls lead to");
+        self.unmade.report(report);
+    }
+}
+
+/// A call of a state that is none is 10 alone, and changes nothing.
+pub fn refuses(
+    library: &dyn Machine,
+    random: &mut Random,
+    turn: &Turn,
+    state: &Lent<u8>,
+) -> Result<(), String> {
+    let header = Lent::numbers(random, turn.header);
+    let out = Lent::octets(random, turn.out);
+    let (mut found_state, mut found_header, mut found_out) =
+        (state.clone(), header.clone(), out.clone());
+    let outcome = library.call(
+        &turn.call,
+        found_header.slice_mut(),
+        found_state.slice_mut(),
+        found_out.slice_mut(),
+    );
+    let kept = state.stray(&found_state).is_none()
+        && header.stray(&found_header).is_none()
+        && out.stray(&found_out).is_none();
+    match (outcome == answer::VALUES.into(), kept) {
+        (true, true) => Ok(()),
+        (false, _) => Err(format!("{turn} gives {outcome:#x} where oam_show gives 10")),
+        (true, false) => Err(format!("{turn} is refused and changes what was lent")),
     }
 }
 
 /// The end that a state shows; nothing where it is refused.
-fn shown(
+pub fn shown(
     library: &dyn Machine,
     random: &mut Random,
     state: &Lent<u8>,
@@ -193,13 +214,4 @@ fn shown(
         10 => Err(String::from("oam_show refuses and stores")),
         other => Err(format!("oam_show gives {other:#x}")),
     }
-}
-
-/// Whether an end is plainly such as no calls lead to.
-fn is_odd(end: &End) -> bool {
-    let any = end.discovery == Discovery::SendAny;
-    let holds = end.peer.is_some() || end.kept_field > 0 || end.last_event.is_some();
-    (end.role != Role::Idle && !any)
-        || (end.owed && !end.allows_information())
-        || (holds && !end.link_up)
 }

@@ -6,6 +6,7 @@ mod damaged;
 mod difference;
 mod happening;
 mod played;
+mod unmade;
 
 #[cfg(test)]
 pub mod tests;
@@ -50,6 +51,8 @@ struct Trial<'a> {
     rooms: Tally<(Room, bool)>,
     stands: Tally<(Discovery, Role)>,
     happenings: Tally<Happening>,
+    /// Refusals with a State octet other than 00.
+    busy: Tally<(&'static str, u8)>,
     damaged: Damaged,
 }
 
@@ -67,6 +70,7 @@ impl<'a> Trial<'a> {
             rooms: Tally::expecting(possible_rooms()),
             stands: Tally::expecting(possible_stands()),
             happenings: Tally::expecting(Happening::ALL),
+            busy: Tally::expecting(possible_busy()),
             damaged: Damaged::new(),
         }
     }
@@ -152,9 +156,14 @@ impl<'a> Trial<'a> {
     fn turn(&mut self, played: &mut Played, turn: Turn) -> Result<u8, String> {
         let before = played.end();
         let name = turn.call.name();
+        let short = name == "oam_receive" && turn.header < RECEIVED;
         let outcome = Outcome::of(played.turn(&mut self.random, turn)?);
         self.calls += 1;
         self.answers.count((name, outcome.answer));
+        if outcome.answer != answer::ACCEPTED && before.role != Role::Idle {
+            let name = if short { SHORT_HEADER } else { name };
+            self.busy.count((name, outcome.answer));
+        }
         let after = played.end();
         self.stands.count((after.discovery, after.role));
         let seen = Seen::new(&before, played.last_call(), &after, &outcome);
@@ -180,6 +189,9 @@ impl<'a> Trial<'a> {
             format!("{fault:?}")
         });
         report.add("calls", &self.answers, |(name, answer)| {
+            format!("{name}, answered {answer}")
+        });
+        report.add("refusals in a role", &self.busy, |(name, answer)| {
             format!("{name}, answered {answer}")
         });
         report.add("outputs", &self.rooms, |(room, short)| {
@@ -233,6 +245,18 @@ fn possible_answers() -> Vec<(&'static str, u8)> {
             .map(move |answer| (name, answer))
     };
     Call::NAMES.into_iter().flat_map(each).collect()
+}
+
+/// A call whose header is too short, which only a received frame needs.
+const SHORT_HEADER: &str = "oam_receive, of a short header";
+
+/// The answers that a role other than Idle leaves, which is in SEND_ANY.
+fn possible_busy() -> Vec<(&'static str, u8)> {
+    let refusal =
+        |(_, answer): &(&str, u8)| ![answer::ACCEPTED, answer::NOT_SEND_ANY].contains(answer);
+    let mut possible: Vec<_> = possible_answers().into_iter().filter(refusal).collect();
+    possible.push((SHORT_HEADER, answer::OUTPUT));
+    possible
 }
 
 /// Of enough room only a header too short is answered 9.

@@ -1,12 +1,14 @@
 //! A machine with one slip.
 
-use crate::library::machine::{packed, unpacked, Call, Machine, Outcome, RECEIVED, STATE_OCTETS};
+use crate::library::machine::{
+    called, packed, shown, unpacked_with, Call, Machine, Outcome, RECEIVED, STATE_OCTETS,
+};
 use crate::library::ByPaper;
 use crate::paper::machine::{
-    configuration, Discovery, End, Report, Role, Settings, COMPLETE, LOST_LINK, MOST_FRAMES,
-    SMALLEST_SIZE,
+    configuration, Breach, Discovery, End, Report, Role, Settings, COMPLETE, LOST_LINK,
+    MOST_FRAMES, SMALLEST_SIZE,
 };
-use crate::paper::{answer, check, code, joined, read, Body, Heading};
+use crate::paper::{answer, check, code, joined, read, Body, Heading, SHORTEST};
 use std::cell::Cell;
 
 #[derive(Clone, Copy, Debug, PartialEq, Eq)]
@@ -53,10 +55,19 @@ pub enum Slip {
     EventKeptOverFault,
     OnlyTheOwnSizeCounts,
     ReadsBeforeOutput,
+    LoopsWithoutBit2,
+    PassiveEndAsks,
+    TakesLoopingWithoutBit2,
+    TakesAskingOfAPassiveEnd,
+    TakesEventsWithoutRecord,
+    ShortHeaderHasNoOctet,
+    UnknownReportHasNoOctet,
+    HeaderBeforeState,
+    OutputBeforeReport,
 }
 
 impl Slip {
-    pub const ALL: [Slip; 42] = [
+    pub const ALL: [Slip; 51] = [
         Slip::LosesTheLinkAt49,
         Slip::LosesTheLinkAt51,
         Slip::RefusedFrameRestartsTheCount,
@@ -99,7 +110,35 @@ impl Slip {
         Slip::EventKeptOverFault,
         Slip::OnlyTheOwnSizeCounts,
         Slip::ReadsBeforeOutput,
+        Slip::LoopsWithoutBit2,
+        Slip::PassiveEndAsks,
+        Slip::TakesLoopingWithoutBit2,
+        Slip::TakesAskingOfAPassiveEnd,
+        Slip::TakesEventsWithoutRecord,
+        Slip::ShortHeaderHasNoOctet,
+        Slip::UnknownReportHasNoOctet,
+        Slip::HeaderBeforeState,
+        Slip::OutputBeforeReport,
     ];
+
+    /// The rules that ends break which it makes or takes.
+    fn breaches(self) -> &'static [Breach] {
+        match self {
+            Slip::EnableObeyedBeforeSendAny | Slip::RoleKeptOutsideSendAny => {
+                &[Breach::RoleOutsideSendAny, Breach::LoopingWithoutBit2]
+            }
+            Slip::LoopsWithoutEnable | Slip::LoopsWithoutBit2 | Slip::TakesLoopingWithoutBit2 => {
+                &[Breach::LoopingWithoutBit2]
+            }
+            Slip::PassiveEndAsks | Slip::TakesAskingOfAPassiveEnd => &[Breach::AskingOfAPassiveEnd],
+            Slip::OwedWhereNotAllowed => &[Breach::OwedWhereNotAllowed],
+            Slip::EventKeptOverFault => &[Breach::PeerKeptWithLinkDown, Breach::EventWithoutRecord],
+            Slip::EventKeptOutsideSendAny | Slip::TakesEventsWithoutRecord => {
+                &[Breach::EventWithoutRecord]
+            }
+            _ => &[],
+        }
+    }
 }
 
 /// The paper's machine with one slip.
@@ -124,17 +163,14 @@ impl Machine for Slipping {
             Slip::TakesLongerStates => &mut state[..length.min(STATE_OCTETS)],
             _ => state,
         };
-        let Some(before) = unpacked(state) else {
-            if self.slip == Slip::BadStateClearsOutput {
-                out.fill(0);
-            }
-            return ByPaper.call(call, header, state, out);
+        let Some(before) = unpacked_with(state, self.slip.breaches()) else {
+            return self.bad_state(call, header, out);
         };
         let (mut end, mut given) = (before, call.clone());
         self.prepare(&mut end, &mut given);
         let mut working = packed(&end);
-        let outcome = ByPaper.call(&given, header, &mut working, out);
-        let mut after = unpacked(&working).expect("a state");
+        let outcome = called(end, &given, header, &mut working, out);
+        let mut after = unpacked_with(&working, &Breach::ALL).expect("a state");
         let Outcome { answer, length, .. } = Outcome::of(outcome);
         let outcome = if answer == answer::ACCEPTED {
             self.restore(&before, &end, call, &mut after, header);
@@ -143,7 +179,7 @@ impl Machine for Slipping {
             outcome & !(0xFF << 40) | u64::from(after.role.octet()) << 40
         } else {
             after = before;
-            self.refused(&mut after, call, outcome, header)
+            self.refused(&mut after, call, outcome, header, out)
         };
         state.copy_from_slice(&packed(&after));
         outcome
@@ -153,7 +189,7 @@ impl Machine for Slipping {
         if self.slip == Slip::ShowsWithLessRoom && numbers.len() == 27 {
             return answer::ACCEPTED.into();
         }
-        let outcome = ByPaper.show(state, numbers);
+        let outcome = shown(unpacked_with(state, self.slip.breaches()), numbers);
         if self.slip == Slip::ShowsNothingOwed && outcome == 0 {
             numbers[26] = 0;
         }
@@ -194,8 +230,23 @@ impl Slipping {
             (Slip::RepeatsShowEvents, Call::Receive(frame)) if is_notification(frame) => {
                 end.last_event = None;
             }
+            (Slip::PassiveEndAsks, Call::Start) => {
+                end.settings.configuration |= configuration::ACTIVE;
+            }
             (_, call) if call.is_request() => self.prepare_peer(end),
             _ => {}
+        }
+    }
+
+    /// Alters the refusal of a state that is none.
+    fn bad_state(&self, call: &Call, header: &[u64], out: &mut [u8]) -> u64 {
+        if self.slip == Slip::BadStateClearsOutput {
+            out.fill(0);
+        }
+        let short = matches!(call, Call::Receive(_)) && header.len() < RECEIVED;
+        match self.slip {
+            Slip::HeaderBeforeState if short => answer::OUTPUT.into(),
+            _ => answer::VALUES.into(),
         }
     }
 
@@ -215,6 +266,7 @@ impl Slipping {
 
     /// Takes back what was altered, where the call did not overwrite it.
     fn restore(&self, before: &End, given: &End, call: &Call, after: &mut End, header: &mut [u64]) {
+        after.settings = before.settings;
         if after.peer == given.peer {
             after.peer = before.peer;
         }
@@ -275,6 +327,9 @@ impl Slipping {
                 after.role = Role::Looping;
             }
             Slip::LoopsWithoutEnable if any => after.role = Role::Looping,
+            Slip::LoopsWithoutBit2 if any && is_command(frame, 1) && before.role == Role::Idle => {
+                after.role = Role::Looping;
+            }
             Slip::DisableNeedsAnActivePeer if any && is_command(frame, 2) && passive_peer => {
                 after.role = before.role;
             }
@@ -319,9 +374,24 @@ impl Slipping {
     }
 
     /// Alters a refusal.
-    fn refused(&self, end: &mut End, call: &Call, outcome: u64, header: &mut [u64]) -> u64 {
+    fn refused(
+        &self,
+        end: &mut End,
+        call: &Call,
+        outcome: u64,
+        header: &mut [u64],
+        out: &[u8],
+    ) -> u64 {
         let answer = Outcome::of(outcome).answer;
+        let unknown = answer == answer::VALUES;
         match (self.slip, call) {
+            (Slip::ShortHeaderHasNoOctet, Call::Receive(_)) if header.len() < RECEIVED => {
+                return answer.into();
+            }
+            (Slip::UnknownReportHasNoOctet, Call::Report(_)) if unknown => return answer.into(),
+            (Slip::OutputBeforeReport, Call::Report(_)) if unknown && out.len() < SHORTEST => {
+                return outcome - 1;
+            }
             (Slip::RefusedFrameRestartsTheCount, Call::Receive(_)) => end.lost_link = 0,
             (Slip::RefusedTickCounts, Call::Tick) => end.ticks = (end.ticks + 1) % 10,
             (Slip::RefusalStoresHeader, Call::Receive(_)) => header.fill(0),
