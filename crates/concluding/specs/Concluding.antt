@@ -18,6 +18,6 @@ kindOf (Events h n) = 2
 unfoldable pub steppedNumber : Outcome → ℕ
 steppedNumber o = o .answer + o .length % 2 ^ 32 * 2 ^ 8 + o .state * 2 ^ 40 + kindOf (o .shown) * 2 ^ 48
 
--- the state after a call: "A refusal changes nothing."
+-- the state after a call; of a refused one "State and lent memory stay as before"
 unfoldable pub steppedState : Outcome → List ℕ → List ℕ
 steppedState o state = cond (eqb (o .answer) 0) (packedIn (o .end) state) state
