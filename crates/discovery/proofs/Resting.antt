@@ -1,6 +1,6 @@
 -- The paper's moves, run until none applies, come to rest where `standsAt` says and nowhere else, whichever is taken first where two
 -- apply at once; and they do come to rest, for no more than four can follow one another.
-use Prim.Native.Nat.{ℕ, zero, suc, _<_, _≤_}
+use Prim.Native.Nat.{ℕ, suc, _<_, _≤_}
 use mathlib.Core.Path.{_≡_, refl, sym, _∙_}
 use mathlib.Core.Bool.{Bool, true, false, cond, true≢false}
 use native.Mathlib.Omega.{arith}

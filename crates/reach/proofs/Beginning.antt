@@ -26,7 +26,6 @@ use Rattle.end.specs.declared.Heard.{Heard}
 use Rattle.end.specs.declared.Taken.{Taken}
 use Rattle.end.specs.declared.Report.{Report}
 use Rattle.end.specs.declared.Report.the-variants.{LinkUp, LinkDown, DyingGasp, CriticalEvent}
-use Rattle.link.specs.declared.Outcome.{Outcome}
 use Rattle.end.specs.State.{freshEnd, discoveryOf, inAny, faulted, settled}
 use Rattle.end.specs.Ticking.{missed, ticked}
 use Rattle.end.specs.Reporting.{linkUp, linkDown, reported}
@@ -38,7 +37,7 @@ use Rattle.reach.specs.Ordering.{Ordered, OrderedIn, now, since}
 use Rattle.reach.proofs.Bools.{not-both, whether}
 use Rattle.reach.proofs.Coming.{localIn, actionIn, heardIn}
 use Rattle.reach.proofs.Ranging.{run-is}
-use Rattle.reach.proofs.Refusing.{refused-unchanged}
+use Rattle.reach.proofs.Refusing.{refused-end}
 use Rattle.reach.proofs.InSendAny.{is-any, looping-any}
 use Rattle.reach.proofs.Effects.{Face, faceOf, same-discovery, Becomes, ticks, reports, hears, asks, effect-of}
 
@@ -231,9 +230,7 @@ module _ (c : Call) (e : End) (f : isLooping (e .role) ≡ false) where
       (λ t.
       let h = effect-of c e (eqb-true (outcomeOf c e .answer) 0 t) in
       ordered (c .input) refl (h .next) (h .face) (h .how) (ap (λ (k : Face). k .role) (sym (h .face)) ∙ l))
-      (λ n.
-      let same : outcomeOf c e .end ≡ e = ap (λ (o : Outcome). o .end) (refused-unchanged c e (eqb-false (outcomeOf c e .answer) 0 n) .outcome) in
-      not-looping f (ap (λ (x : End). x .role) (sym same) ∙ l))
+      (λ n. not-looping f (ap (λ (x : End). x .role) (sym (refused-end c e (eqb-false (outcomeOf c e .answer) 0 n))) ∙ l))
 
 -- ---- every run
 

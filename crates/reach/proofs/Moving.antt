@@ -21,7 +21,6 @@ use Rattle.end.specs.declared.End.{End}
 use Rattle.end.specs.declared.Heard.{Heard}
 use Rattle.end.specs.declared.Report.{Report}
 use Rattle.end.specs.declared.Report.the-variants.{LinkUp, LinkDown, DyingGasp, CriticalEvent}
-use Rattle.link.specs.declared.Outcome.{Outcome}
 use Rattle.end.specs.State.{withLink, noPeer, discoveryOf, settled, faulted}
 use Rattle.end.specs.Taking.{learned, acted, taken}
 use Rattle.end.specs.Ticking.{missed, ticked}
@@ -31,7 +30,7 @@ use Rattle.reach.specs.Moving.{SettlesIn, entersBy, entersFault, movesFr
 use Rattle.reach.proofs.Bools.{whether}
 use Rattle.reach.proofs.Keeping.{by-taken}
 use Rattle.reach.proofs.Losing.{Footing, footingOf, rests}
-use Rattle.reach.proofs.Refusing.{refused-unchanged}
+use Rattle.reach.proofs.Refusing.{refused-end}
 use Rattle.reach.proofs.Effects.{Face, Becomes, ticks, reports, hears, asks, effect-of}
 
 -- ---- a state that an end bears out
@@ -126,10 +125,9 @@ call-borne c e =
     whether (eqb (outcomeOf c e .answer) 0)
     (λ t.
     let x = effect-of c e (eqb-true (outcomeOf c e .answer) 0 t) in
-    rw t (subst (λ (f : Face). BorneOn (cond (entersBy (c .input) e) Fault (discoveryOf e)) (f .footing)) (sym (x .face)) (becomes-borne e (c .input) (x .next) (x .how))))
-    (λ f.
-    let same-end : outcomeOf c e .end ≡ e = ap (λ (o : Outcome). o .end) (refused-unchanged c e (eqb-false (outcomeOf c e .answer) 0 f) .outcome) in
-    rw f (subst (BorneBy (discoveryOf e)) (sym same-end) (same e)))
+    let d = cond (entersBy (c .input) e) Fault (discoveryOf e) in
+    rw t (subst (λ (f : Face). BorneOn d (f .footing)) (sym (x .face)) (becomes-borne e (c .input) (x .next) (x .how))))
+    (λ f. rw f (subst (BorneBy (discoveryOf e)) (sym (refused-end c e (eqb-false (outcomeOf c e .answer) 0 f))) (same e)))
 
 -- the moves lead from there to where discovery stands after the call
 pub call-moves : (c : Call) (e : End) → SettlesIn (outcomeOf c e .end) (movesFrom c e) (discoveryOf (outcomeOf c e .end))

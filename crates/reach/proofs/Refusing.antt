@@ -1,5 +1,5 @@
 -- A refused call changes nothing: the same end, no frame, the output as lent, nothing shown. This is so of any end.
-use mathlib.Core.Path.{_≡_, refl, _∙_}
+use mathlib.Core.Path.{_≡_, refl, ap, _∙_}
 use Prim.Native.Nat.{ℕ}
 use lib.ListN.{length}
 use Rattle.tlvs.proofs.Walks.{by-cond}
@@ -31,3 +31,6 @@ refused-unchanged c e n = by (comes c e)
     by (refuses h) = record { outcome = h .outcome ∙ rw (h .outcome); output = h .output }
     by (concludes h) = absurd (n (concludes-0 c e h))
     by (grants h) = absurd (n (rw (h .outcome)))
+
+pub refused-end : (c : Call) (e : End) → (outcomeOf c e .answer ≡ 0 → ⊥) → outcomeOf c e .end ≡ e
+refused-end c e n = ap (λ (o : Outcome). o .end) (refused-unchanged c e n .outcome)
