@@ -36,8 +36,8 @@ module _ (p : Progress) (f out : List ℕ) where
   newline-taken room = rw (le-ltb (length out - 0 - 0) rowRoom (omega arith))
 
   -- with room for a row all that there is to say at the end is said
-  pub said-whole : rowRoom ≤ length out → lastSaid (length out) state ≡ lastRow state
-  said-whole h = simp (le-ltb (length out) rowRoom h)
+  pub last-whole : rowRoom ≤ length out → lastSaid (length out) state ≡ lastRow state
+  last-whole h = simp (le-ltb (length out) rowRoom h)
 
   -- the three ways in which the end keeps its promise
   pub finishes : {f' out' : List ℕ} {r : Place} → hasBegun (p .line) ≡ true → rowRoom ≤ length out → Feeds (front p) f (newline ∷ []) out r f' out'

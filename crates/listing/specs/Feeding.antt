@@ -6,7 +6,7 @@ use mathlib.Core.Bool.{Bool, cond}
 use lib.Dec.{ltb, eqb}
 use lib.ListN.{length, getD, drop}
 use lib.Seq.{sets}
-use Rattle.text.specs.Pieces.{Reader, Outcome, fedFrom}
+use Rattle.text.specs.Pieces.{Steps, Outcome, fedFrom}
 use Rattle.listing.specs.Rows.{newline, rowOf, rowRoom}
 use Rattle.listing.specs.Listing.{following}
 use Rattle.listing.specs.Taking.{fresh, lineWith, frameWith, hasBegun, decodedOf, decodedEntry}
@@ -49,7 +49,7 @@ unfoldable pub lastRow : State → List ℕ
 lastRow s = cond (hasBegun (s .progress .line)) (presentRow s) []
 
 -- A newline says its line's row, and wants room for any row.
-abbrev pub lister : Reader State
+abbrev pub lister : Steps State
 lister = record {
   next = λ s c. cond (eqb c newline) (ends s) (goesOn s c);
   says = λ s c. cond (eqb c newline) (presentRow s) [];

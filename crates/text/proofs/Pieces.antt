@@ -11,11 +11,11 @@ use borrow.Author.Tests.{le-ltb}
 use lib.Dec.{ltb}
 use lib.ListN.{length, take, drop, take-append-drop, length-take, length-drop}
 use lib.Seq.{drop-append-le}
-use Rattle.text.specs.Pieces.{Reader, Outcome, takes, fedFrom, toSay, Call, Run, called, runFrom, runOf, Within, Able}
+use Rattle.text.specs.Pieces.{Steps, Outcome, takes, fedFrom, toSay, Call, Run, called, runFrom, runOf, Within, Able}
 use Rattle.text.proofs.Bounds.{by-bound}
 use Rattle.text.proofs.Stores.{empty}
 
-module _ {S : Type 0} (r : Reader S) where
+module _ {S : Type 0} (r : Steps S) where
   -- what a call has said, and all that there is to say of what it has left
   abbrev inAll : Outcome S → List ℕ → List ℕ
   inAll o left = o .said ++ toSay r (o .state) left

@@ -1,13 +1,14 @@
 -- An input that is taken a character at a time, by calls that are each lent a piece of it and room for what is said. The
--- definitions are for any reader of characters, whatever its state: a listing, a capture file, recorded lines.
+-- definitions are for any steps, whatever their state: those over lines, over a capture file, over recorded lines.
 use Prim.Native.Nat.{ℕ, _+_, _-_, _≤_, _<_}
 use mathlib.Core.List.{List, [], _∷_, _++_}
 use mathlib.Core.Bool.{cond}
 use lib.Dec.{ltb}
 use lib.ListN.{length, take, drop}
 
--- the state after a character, what is said there, and the room that is wanted for it; and what is said at the input's end
-pub record Reader (S : Type 0) : Type 0 where
+-- The step at a character: the state after it, what is said there, and the room that is wanted before it is taken. At the
+-- input's end there may be something left to say.
+pub record Steps (S : Type 0) : Type 0 where
   pub next : S → ℕ → S
   pub says : S → ℕ → List ℕ
   pub wants : S → ℕ → ℕ
@@ -19,17 +20,17 @@ pub record Outcome (S : Type 0) : Type 0 where
   pub taken : ℕ
   pub said : List ℕ
 
-abbrev pub takes : {S : Type 0} → Reader S → Outcome S → ℕ → Outcome S
+abbrev pub takes : {S : Type 0} → Steps S → Outcome S → ℕ → Outcome S
 takes r o c = record { state = r .next (o .state) c; taken = o .taken + 1; said = o .said ++ r .says (o .state) c }
 
 -- The characters in order, with room for so many octets. The call stops before a character that wants more than is left.
-unfoldable pub fedFrom : {S : Type 0} → Reader S → ℕ → Outcome S → List ℕ → Outcome S
+unfoldable pub fedFrom : {S : Type 0} → Steps S → ℕ → Outcome S → List ℕ → Outcome S
 fedFrom r room o [] = o
 fedFrom r room o (c ∷ rest) =
     cond (ltb (room - length (o .said)) (r .wants (o .state) c)) o (fedFrom r room (takes r o c) rest)
 
 -- all that there is to say of an input, from a state on
-unfoldable pub toSay : {S : Type 0} → Reader S → S → List ℕ → List ℕ
+unfoldable pub toSay : {S : Type 0} → Steps S → S → List ℕ → List ℕ
 toSay r s [] = r .last s
 toSay r s (c ∷ rest) = r .says s c ++ toSay r (r .next s c) rest
 
@@ -46,21 +47,21 @@ pub record Run (S : Type 0) : Type 0 where
   pub left : List ℕ
   pub said : List ℕ
 
-abbrev pub called : {S : Type 0} → Reader S → Call → Run S → Run S
+abbrev pub called : {S : Type 0} → Steps S → Call → Run S → Run S
 called r c run =
     let o = fedFrom r (c .room) (record { state = run .state; taken = 0; said = [] }) (take (c .size) (run .left)) in
     record { state = o .state; left = drop (o .taken) (run .left); said = run .said ++ o .said }
 
-unfoldable pub runFrom : {S : Type 0} → Reader S → Run S → List Call → Run S
+unfoldable pub runFrom : {S : Type 0} → Steps S → Run S → List Call → Run S
 runFrom r run [] = run
 runFrom r run (c ∷ calls) = runFrom r (called r c run) calls
 
 -- from the input's beginning
-abbrev pub runOf : {S : Type 0} → Reader S → S → List ℕ → List Call → Run S
+abbrev pub runOf : {S : Type 0} → Steps S → S → List ℕ → List Call → Run S
 runOf r s input calls = runFrom r (record { state = s; left = input; said = [] }) calls
 
 -- no character wants more room than that
-abbrev pub Within : {S : Type 0} → Reader S → ℕ → Type 0
+abbrev pub Within : {S : Type 0} → Steps S → ℕ → Type 0
 Within {S} r most = (s : S) (c : ℕ) → r .wants s c ≤ most
 
 -- calls that are each given something, and room for whatever is wanted
