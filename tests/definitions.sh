@@ -57,8 +57,6 @@ for edit in "$edits"/*.edit; do
   if [ "$status" != 1 ] || [ -z "$names" ] || grep -a -q 'is not in scope' log; then
     echo "definitions: $name: NOT refused by a theorem (exit $status)"
     failed=1
-  elif [ -z "$theorem" ]; then
-    echo "definitions: $name: refused, as it must be, in $names (first at $first), and no theorem is known to break"
   elif ! printf '%s\n' "$broken" | grep -q -F ": error: \`$theorem\`"; then
     echo "definitions: $name: refused in $names (first at $first), and \`$theorem\` is NOT lost with it"
     failed=1

@@ -1,6 +1,8 @@
 //! The documents against the repository: every link leads somewhere, every name stands in the file that is said to have it,
-//! every public function is among the promises of its crate, has a contract, and has no condition on its caller.
+//! every public function is among the promises of its crate, has a contract, and has no condition on its caller; and those
+//! that give an end are among those that are said to keep its ranges.
 
+use std::collections::BTreeSet;
 use std::fs;
 use std::path::{Path, PathBuf};
 
@@ -249,6 +251,107 @@ fn every_public_function_is_among_the_promises() {
             "docs/PROMISES.md does not name {missing:?} of {name}"
         );
     }
+}
+
+/// The words of a code text, as names are written.
+fn words(code: &str) -> impl Iterator<Item = &str> {
+    code.split(|c: char| !c.is_alphanumeric() && c != '_')
+}
+
+/// The types that are an end or hold one, themselves or by another type, among those that a code text declares.
+fn holding_an_end(code: &str) -> BTreeSet<&str> {
+    let declared = ["struct ", "enum "].iter().flat_map(|mark| {
+        let found = code.match_indices(mark);
+        found.map(|(at, mark)| &code[at + mark.len()..])
+    });
+    let declared: Vec<(&str, &str)> = declared
+        .filter_map(|rest| {
+            let open = rest.find('{')?;
+            let length = rest.len() - behind_bracket(&rest[open..]).len();
+            Some((rest[..open].trim(), &rest[open..length]))
+        })
+        .collect();
+    let mut holding = BTreeSet::from(["End"]);
+    loop {
+        let holds = |(_, parts): &&(&str, &str)| words(parts).any(|w| holding.contains(w));
+        let more: BTreeSet<&str> = declared
+            .iter()
+            .filter(holds)
+            .map(|(name, _)| *name)
+            .collect();
+        if more.is_subset(&holding) {
+            return holding;
+        }
+        holding.extend(more);
+    }
+}
+
+/// The public functions of a source text whose result is or holds an end.
+fn giving_an_end(written: &str) -> Vec<Public> {
+    let code = code(written);
+    let holding = holding_an_end(&code);
+    let gives = |f: &Public| words(&f.result).any(|word| holding.contains(word));
+    public_functions(written)
+        .into_iter()
+        .filter(gives)
+        .collect()
+}
+
+/// The paragraph of a text that starts so; empty where none does.
+fn paragraph<'a>(text: &'a str, start: &str) -> &'a str {
+    let mut paragraphs = text.split("\n\n").map(str::trim);
+    paragraphs.find(|p| p.starts_with(start)).unwrap_or("")
+}
+
+#[test]
+fn every_function_that_gives_an_end_is_said_to_keep_the_ranges() {
+    let sources = files(&repository().join("crates/end"), "rt");
+    let sources: Vec<String> = sources.iter().map(|s| text(s)).collect();
+    let functions = giving_an_end(&sources.join("\n"));
+    assert!(functions.len() > 4, "only {} were found", functions.len());
+    let promises = text(&repository().join("docs/PROMISES.md"));
+    let start = "Every function that gives an end gives a ranged one for a ranged one";
+    let missing = not_named(paragraph(section(&promises, "end"), start), &functions);
+    assert!(
+        missing.is_empty(),
+        "under \"## end\" of docs/PROMISES.md the paragraph \"{start}\" does not name {missing:?}"
+    );
+}
+
+#[test]
+fn what_holds_an_end_is_seen() {
+    let source = "\
+pub struct End {
+    n: u8,
+}
+pub struct Taken {
+    pub end: End,
+}
+enum Answer {
+    No(u8),
+    Is(Taken),
+}
+pub struct Ending {
+    n: u8,
+}
+pub fn a(e: End) -> Answer
+    ensures { x }
+{
+}
+pub fn b(e: End) -> Ending
+    ensures { x }
+{
+}
+pub fn c() -> End {
+}
+";
+    let functions = giving_an_end(source);
+    let names: Vec<&str> = functions.iter().map(|f| f.name.as_str()).collect();
+    assert_eq!(names, ["a", "c"]);
+    let document = "\n## end\nFirst `a`.\n\nSo says `c(n)`,\nnot `a_not`.\n\nThen `a`.\n";
+    let told = paragraph(section(document, "end"), "So says");
+    assert_eq!(not_named(told, &functions), ["a"]);
+    assert_eq!(paragraph(document, "None"), "");
 }
 
 const MADE_UP: &str = "\

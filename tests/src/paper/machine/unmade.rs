@@ -10,7 +10,8 @@ pub enum Breach {
     RoleOutsideSendAny,
     /// "Enable, own bit 2 set and peer active".
     LoopingWithoutBit2,
-    /// Start and stop, and what comes of them: "a passive end [..] 15".
+    /// Of start and stop: "Other roles, a passive end, or for start a peer without
+    /// bit 2: 15."
     AskingOfAPassiveEnd,
     /// "Where it isn't allowed nothing is owed."
     OwedWhereNotAllowed,
