@@ -14,14 +14,14 @@ pub fn list(mut input: impl Read, mut output: impl Write) -> io::Result<()> {
     let mut lister = Lister::new();
     let mut piece = vec![0; PIECE];
     loop {
+        output.write_all(&lister.rows)?;
+        lister.rows.clear();
         match input.read(&mut piece) {
             Ok(0) => break,
             Ok(count) => lister.feed(&piece[..count]),
             Err(error) if error.kind() == ErrorKind::Interrupted => {}
             Err(error) => return Err(error),
         }
-        output.write_all(&lister.rows)?;
-        lister.rows.clear();
     }
     lister.finish();
     output.write_all(&lister.rows)?;

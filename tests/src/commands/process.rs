@@ -65,9 +65,10 @@ impl Program {
         })
     }
 
-    /// Runs the program and writes each piece to it only after it has written so
-    /// many octets as `expected` gives for the pieces before. What it wrote
-    /// within `patience` of the last piece is given.
+    /// Runs the program and writes each piece to it only after it has written as
+    /// many octets as `expected` gives for the pieces before. Gives what it wrote
+    /// before its input's end; where it keeps something back for longer than
+    /// `patience`, nothing more is fed.
     pub fn run_live(
         &self,
         pieces: &[&[u8]],
@@ -78,11 +79,11 @@ impl Program {
         let mut pipe = child.stdin.take().expect("standard input is a pipe");
         let written = octets_of(child.stdout.take().expect("standard output is a pipe"));
         let mut output = Vec::new();
-        for fed in 0..=pieces.len() {
+        'feeding: for fed in 0..=pieces.len() {
             while output.len() < expected(fed) {
                 match written.recv_timeout(patience) {
                     Ok(octets) => output.extend(octets),
-                    Err(_) => break,
+                    Err(_) => break 'feeding,
                 }
             }
             if let Some(piece) = pieces.get(fed) {
