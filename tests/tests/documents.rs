@@ -253,6 +253,60 @@ fn every_public_function_is_among_the_promises() {
     }
 }
 
+/// The names without ending of the files in a folder; none where there is no such folder.
+fn stems(folder: &Path) -> Vec<String> {
+    let Ok(entries) = fs::read_dir(folder) else {
+        return Vec::new();
+    };
+    entries
+        .filter_map(|entry| {
+            let path = entry.expect("an entry can be read").path();
+            Some(path.file_stem()?.to_string_lossy().into_owned())
+        })
+        .collect()
+}
+
+/// What the last cells of a document's tables with a column "Tried" name.
+fn tried(document: &str) -> Vec<&str> {
+    let mut found = Vec::new();
+    let mut in_column = false;
+    for line in document.lines() {
+        let last = line.trim_end_matches('|').rsplit('|').next().unwrap_or("");
+        if !line.starts_with('|') {
+            in_column = false;
+        } else if last.trim() == "Tried" {
+            in_column = true;
+        } else if in_column {
+            found.extend(functions_named(last));
+        }
+    }
+    found
+}
+
+/// Those of some names that are no edit, no comparison of tests/, and no crate.
+fn not_tried<'a>(named: &[&'a str]) -> Vec<&'a str> {
+    let crates = stems(&repository().join("crates"));
+    let edits = crates
+        .iter()
+        .flat_map(|name| stems(&repository().join("crates").join(name).join("must-fail")));
+    let mut known: Vec<String> = edits.collect();
+    known.extend(stems(&repository().join("tests/definitions")));
+    known.extend(crates);
+    known.extend(["lister", "log", "machine", "pair", "reading", "writers"].map(String::from));
+    let unknown = named.iter().filter(|n| !known.iter().any(|k| k == *n));
+    unknown.copied().collect()
+}
+
+#[test]
+fn what_is_said_to_be_tried_is_there() {
+    let promises = text(&repository().join("docs/PROMISES.md"));
+    let named = tried(&promises);
+    assert!(named.len() > 50, "only {} were found", named.len());
+    assert_eq!(not_tried(&named), Vec::<&str>::new());
+    let made_up = "| A | Tried |\n|---|---|\n| `x` | `no_such_edit`, tests `log` |\n";
+    assert_eq!(not_tried(&tried(made_up)), ["no_such_edit"]);
+}
+
 /// The words of a code text, as names are written.
 fn words(code: &str) -> impl Iterator<Item = &str> {
     code.split(|c: char| !c.is_alphanumeric() && c != '_')
