@@ -50,12 +50,15 @@ module _ (a : Asked) (e : End) (out : List ℕ) (d : Decided)
 
   pub requests : (r : Outcome) (exit : List ℕ) → Asks d (a .body) out r exit → Requests r exit
   unfolding asks asksOutput
-  requests r exit h =
-      (h .0 ∙ ap (λ (x : Decided). concludedRequest x (a .body) (length out)) decides, h .1 ∙ ap (λ (x : Decided). concludedRequestOutput x (a .body) out) decides)
+  requests r exit h = (
+    h .0 ∙ ap (λ (x : Decided). concludedRequest x (a .body) (length out)) decides,
+    h .1 ∙ ap (λ (x : Decided). concludedRequestOutput x (a .body) out) decides,
+  )
 
   -- no request changes the settings
   pub decided-source : a .next .settings ≡ e .settings → e .settings .source ≡ d .end .settings .source
   unfolding decided granted dues
   decided-source h =
-      by-cond (λ (x : End). e .settings .source ≡ x .settings .source) (eqb (answerTo (sized (a .body)) (a .permitted) (length out) e) 0) (λ _. rw h) (λ _. refl)
+      by-cond (λ (x : End). e .settings .source ≡ x .settings .source) (eqb (answerTo (sized (a .body)) (a .permitted) (length out) e) 0)
+      (λ _. rw h) (λ _. refl)
       ∙ sym (ap (λ (x : Decided). x .end .settings .source) decides)

@@ -3,7 +3,7 @@
 use Prim.Native.Nat.{ℕ, _^_, _<_}
 use mathlib.Core.Path.{_≡_, refl, sym, ap, _∙_}
 use mathlib.Core.List.{List, []}
-use mathlib.Core.Bool.{Bool, true, false}
+use mathlib.Core.Bool.{Bool, true}
 use native.Mathlib.Omega.{arith}
 use borrow.Author.Tests.{eqb-true}
 use lib.Dec.{eqb}
@@ -20,13 +20,13 @@ use Rattle.end.specs.declared.Report.{Report}
 use Rattle.end.specs.declared.Heard.{Heard}
 use Rattle.end.specs.declared.Said.{Said}
 use Rattle.end.specs.declared.Said.the-variants.{Refusal, Is as SaidIs}
-use Rattle.end.specs.State.{withRole, freshEnd, freshOf}
+use Rattle.end.specs.State.{freshOf}
 use Rattle.end.specs.Sending.{sent}
 use Rattle.end.specs.Ticking.{tickedDue}
 use Rattle.end.specs.Reporting.{reportedDue}
 use Rattle.end.specs.Hearing.{saidBy}
 use Rattle.end.specs.Taking.{takenDue, takenWhole}
-use Rattle.end.specs.Granting.{numbered, answerTo, granted, decided, grantedStart, grantedStop, grantedFrame, grantedNumber}
+use Rattle.end.specs.Granting.{answerTo, granted, decided, grantedStart, grantedStop, grantedFrame, grantedNumber}
 use Rattle.end.specs.Ranges.{ranged, checked}
 use Rattle.reach.specs.Machine.{Request, start, stop, notify, tell, tick, report, receive, askedOf}
 use Rattle.reach.proofs.Coming.{heardIn, said-is, ticks, reports, hears}
@@ -73,7 +73,8 @@ module _ (e : End) (h : ranged e ≡ true) where
   report-due-guarded r = is-ranged (reportedDue r e) (noted-ranged e (report r) _ (reports r) tt known)
 
   -- `take_due`, for what `hear` gives of a frame of octets: nothing else gives what is heard
-  pub take-due-guarded : (f : List ℕ) → Octets f → (m : Heard) → saidBy (readingOf (decode f)) ≡ SaidIs m → ranged (takenWhole m e .end) ≡ true
+  pub take-due-guarded : (f : List ℕ) → Octets f → (m : Heard) → saidBy (readingOf (decode f)) ≡ SaidIs m
+      → ranged (takenWhole m e .end) ≡ true
   unfolding takenWhole takenDue
   take-due-guarded f o m s = by-answer (decode f) refl
     where

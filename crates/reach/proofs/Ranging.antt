@@ -3,7 +3,7 @@
 -- SEND_ANY and is one that the settings allow, nothing is owed where it is not allowed, with the link down no peer record is
 -- held, and every number fits its octets.
 use Prim.Native.Nat.{ℕ, _^_, _<_, _≤_}
-use mathlib.Core.Path.{_≡_, refl, sym, ap, subst, _∙_}
+use mathlib.Core.Path.{_≡_, refl, sym, subst, _∙_}
 use mathlib.Core.List.{List, [], _∷_}
 use mathlib.Core.Bool.{Bool, true, false}
 use native.Mathlib.Omega.{arith}
@@ -114,7 +114,8 @@ noted-ranged e i t h o r =
     dues-ranged e (t .due) (t .end) (made-stands e i t h o (r .stands)) (made-rests e i t h (r .rests)) (made-fits e i t h (r .fits))
 
 -- what a granted request comes to
-pub asked-ranged : (q : Request) (e : End) → inAny e ≡ true → askedOf q e .permitted ≡ true → Ranged e → Ranged (granted e (askedOf q e .next))
+pub asked-ranged : (q : Request) (e : End) → inAny e ≡ true → askedOf q e .permitted ≡ true → Ranged e
+    → Ranged (granted e (askedOf q e .next))
 asked-ranged q e any permitted r =
     let x = askedOf q e .next in
     granted-ranged e x
@@ -147,7 +148,8 @@ run-ranged s a cs o = is-ranged (after s cs) (run-is s a cs o)
 -- an end without own bit 2 never loops, and "a passive end" never asks, holds or ends
 pub run-fits : (s : Settings) → Accepted s → (cs : List Call) → AllOfOctets cs → roleFits (s .configuration) (after s cs .role) ≡ true
 run-fits s a cs o =
-    subst (λ (x : Settings). roleFits (x .configuration) (after s cs .role) ≡ true) (run-settings s cs) (ranged-is (after s cs) (run-ranged s a cs o) .fits)
+    subst (λ (x : Settings). roleFits (x .configuration) (after s cs .role) ≡ true) (run-settings s cs)
+    (ranged-is (after s cs) (run-ranged s a cs o) .fits)
 
 -- a role other than Idle stands in SEND_ANY
 pub busy-any : (e : End) → ranged e ≡ true → idle (e .role) ≡ false → inAny e ≡ true
