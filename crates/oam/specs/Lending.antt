@@ -14,7 +14,7 @@ use Rattle.writer.specs.Encode.{informationWidths}
 unfoldable pub lends : List ℕ → Bool
 lends vs = cond (eqb (length vs) 0) true (cond (eqb (length vs) 7) (fit informationWidths vs) false)
 
--- "version 1 octet, revision 2, state 1, configuration 1, OAMPDU configuration 2, OUI 3, vendor 4"
+-- "version 1 octet, revision 2, state 1, configuration 1, OAMPDU configuration 2 ..., OUI 3, vendor 4"
 abbrev pub informationFrom : List ℕ → Information
 informationFrom vs =
     record {

@@ -15,7 +15,7 @@ use Rattle.writer.specs.Octets.{oct, octs}
 unfoldable pub headerOctets : ℕ → ℕ → ℕ → List ℕ
 headerOctets source flags code = octs (6 ∷ 6 ∷ 2 ∷ 1 ∷ 2 ∷ 1 ∷ []) (0x0180_c200_0002 ∷ source ∷ 0x8809 ∷ 3 ∷ flags ∷ code ∷ [])
 
--- "length 16: version 1 octet, revision 2, state 1, configuration 1, OAMPDU configuration 2, OUI 3, vendor 4"
+-- "length 16: version 1 octet, revision 2, state 1, configuration 1, OAMPDU configuration 2 ..., OUI 3, vendor 4"
 abbrev pub informationWidths : List ℕ
 informationWidths = 1 ∷ 2 ∷ 1 ∷ 1 ∷ 2 ∷ 3 ∷ 4 ∷ []
 
