@@ -19,3 +19,6 @@ cc=x86_64-linux-gnu-gcc
 cxx=x86_64-linux-gnu-g++
 export RUSTC=/usr/bin/rustc CARGO_BUILD_TARGET=x86_64-unknown-linux-gnu
 export CARGO_TARGET_X86_64_UNKNOWN_LINUX_GNU_LINKER=$cc CARGO_TARGET_X86_64_UNKNOWN_LINUX_GNU_RUNNER=$emulator
+
+# The tests that need no archive, compiled for this machine: under the emulator they take many times as long.
+natively() { env -u RUSTC -u CARGO_BUILD_TARGET cargo "$1" --quiet --release --manifest-path tests/Cargo.toml "${@:2}"; }
