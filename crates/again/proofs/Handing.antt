@@ -8,6 +8,7 @@ use native.Mathlib.Omega.{arith}
 use borrow.Author.Tests.{eq-eqb, le-ltb}
 use lib.ListN.{length}
 use lib.Seq.{sets}
+use Rattle.tlvs.specs.Octets.{Octets}
 use Rattle.tlvs.specs.declared.Event.{Event}
 use Rattle.body.specs.Information.{InformationPart, local, remote, keepAll, nothing}
 use Rattle.frame.specs.Frame.{Body, information, notification, request, response, loopback, organization, Message, accepted, decode, readingOf}
@@ -20,7 +21,7 @@ use Rattle.writer.specs.declared.Written.the-variants.{Wrote}
 use Rattle.writer.proofs.Bools.{never}
 use Rattle.writer.proofs.Sizes.{plain-body}
 use Rattle.writer.proofs.RoundTrip.{plain-frame}
-use Rattle.again.specs.Handing.{OfOctets, sevens, is, handed, Again}
+use Rattle.again.specs.Handing.{sevens, is, handed, Again}
 
 -- the TLVs that a reader finds in a plain body are the body's
 pub found-again : (ps : List InformationPart) → plainParts ps ≡ true → partsOf (keepAll nothing ps) ≡ ps
@@ -77,7 +78,7 @@ module _ (m : Message) (p : plain m ≡ true) (f : List ℕ) (e : encode m ≡ f
   unfolding written
   stores = rw (p, e, le-ltb (length out) (length f) h)
 
-pub read-and-written : (f : List ℕ) → OfOctets f → plainFrame f ≡ true → Again f
+pub read-and-written : (f : List ℕ) → Octets f → plainFrame f ≡ true → Again f
 read-and-written f o h =
     let k = plain-frame f o h in
     let m = k .0 in

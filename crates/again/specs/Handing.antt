@@ -1,8 +1,8 @@
 -- What a caller who reads a frame hands to the writer of its code, and what comes of it.
-use Prim.Native.Nat.{ℕ, _<_, _≤_}
+use Prim.Native.Nat.{ℕ, _≤_}
 use mathlib.Core.Path.{_≡_}
 use mathlib.Core.List.{List, [], _∷_, _++_}
-use lib.ListN.{length, getD, drop}
+use lib.ListN.{length, drop}
 use lib.Seq.{sets}
 use Rattle.tlvs.specs.Walk.{met}
 use Rattle.tlvs.specs.Events.{eventWalk}
@@ -14,10 +14,6 @@ use Rattle.frame.specs.declared.Reading.the-variants.{Refused, Information, Not
 use Rattle.writer.specs.Encode.{eventValues}
 use Rattle.writer.specs.Writing.{writes, written, messageOf, partsOf, eventsOf}
 use Rattle.writer.specs.declared.Written.the-variants.{Wrote}
-
--- the frame is of octets
-abbrev pub OfOctets : List ℕ → Type 0
-OfOctets f = (i : ℕ) → getD f i 0 < 256
 
 -- events as the writer takes them: seven numbers an event, its type and its six values
 abbrev pub sevens : List Event → List ℕ

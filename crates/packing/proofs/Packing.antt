@@ -8,9 +8,8 @@ use borrow.Author.Tests.{eqb-true, eq-eqb}
 use lib.Dec.{eqb}
 use lib.ListN.{length, drop-of-length-le}
 use lib.Seq.{sets, sets-eq}
-use Rattle.tlvs.specs.Octets.{total}
+use Rattle.tlvs.specs.Octets.{Octets, total}
 use Rattle.tlvs.proofs.Walks.{by-cond}
-use Rattle.tlvs.proofs.Numbers.{Octets}
 use Rattle.writer.specs.Octets.{octs}
 use Rattle.writer.proofs.Lengths.{length-octs}
 use Rattle.writer.proofs.Numbers.{fields-read, fields-again}

@@ -7,7 +7,7 @@ use mathlib.Core.Bool.{Bool, true}
 use native.Mathlib.Omega.{arith}
 use borrow.Author.Tests.{eqb-true}
 use lib.Dec.{eqb}
-use Rattle.tlvs.proofs.Numbers.{Octets}
+use Rattle.tlvs.specs.Octets.{Octets}
 use Rattle.tlvs.proofs.Walks.{by-cond}
 use Rattle.frame.specs.Frame.{Answer, refused, accepted, decode, readingOf}
 use Rattle.peer.specs.Ranges.{sound}

@@ -11,7 +11,7 @@ use Rattle.frame.specs.Frame.{Body, information, notification, request, respons
 use Rattle.body.specs.declared.Found.{Found}
 use Rattle.body.specs.declared.Held.{Held}
 use Rattle.body.specs.declared.Held.the-variants.{Nothing, Is}
-use Rattle.tlvs.proofs.Numbers.{Octets}
+use Rattle.tlvs.specs.Octets.{Octets}
 use Rattle.tlvs.proofs.Walks.{by-cond}
 use Rattle.writer.specs.Plain.{every, plainBody}
 use Rattle.writer.proofs.Bools.{and-l, and-r}

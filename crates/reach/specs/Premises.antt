@@ -1,10 +1,10 @@
 -- What the theorems presuppose: settings that the paper takes (any others yield no end), and received frames that are of octets, as
 -- every slice of them is.
-use Prim.Native.Nat.{ℕ, _^_, _<_}
+use Prim.Native.Nat.{_^_, _<_}
 use mathlib.Core.Path.{_≡_}
 use mathlib.Core.List.{List, [], _∷_}
 use mathlib.Core.Bool.{true}
-use lib.ListN.{getD}
+use Rattle.tlvs.specs.Octets.{Octets}
 use Rattle.peer.specs.Ranges.{sound}
 use Rattle.peer.specs.declared.Settings.{Settings}
 use Rattle.reach.specs.Machine.{Input, tick, report, receive, request, Call}
@@ -18,7 +18,7 @@ pub record Accepted (s : Settings) : Type 0 where
 abbrev pub OfOctets : Input → Type 0
 OfOctets tick = Unit {0}
 OfOctets (report r) = Unit {0}
-OfOctets (receive f) = (i : ℕ) → getD f i 0 < 256
+OfOctets (receive f) = Octets f
 OfOctets (request q) = Unit {0}
 
 -- every frame of a list of calls is of octets

@@ -8,11 +8,7 @@ use native.Mathlib.Nat.{add-zero, pow-suc, pow-le-pow-right}
 use lib.Bits.{bitAnd, bitOr, and-mask, or-shifted}
 use lib.Pow.{split}
 use lib.ListN.{getD}
-use Rattle.tlvs.specs.Octets.{num, bitOf}
-
--- every element is an octet
-abbrev pub Octets : List ℕ → Type 0
-Octets s = (i : ℕ) → getD s i 0 < 256
+use Rattle.tlvs.specs.Octets.{Octets, num, bitOf}
 
 -- octets joined are the number that stands in them
 module _ (s : List ℕ) (at : ℕ) where

@@ -1,8 +1,12 @@
 -- Numbers that stand in octets. "All numbers are big-endian."
-use Prim.Native.Nat.{ℕ, zero, suc, _+_, _*_}
+use Prim.Native.Nat.{ℕ, zero, suc, _+_, _*_, _<_}
 use mathlib.Core.List.{List, [], _∷_}
 use mathlib.Core.Bool.{Bool, true, false}
 use lib.ListN.{getD}
+
+-- every element is an octet, as those of a slice of octets are: what theorems presuppose of a frame
+abbrev pub Octets : List ℕ → Type 0
+Octets s = (i : ℕ) → getD s i 0 < 256
 
 -- the number in the `width` octets of s from octet `at`; octets past the end count as 0, and every use is behind a length test
 abbrev pub num : ℕ → List ℕ → ℕ → ℕ

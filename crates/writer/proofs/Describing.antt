@@ -9,13 +9,13 @@ use borrow.Author.Tests.{ltb-true, ltb-false, leb-true, leb-false, lt-ltb, le-le
 use lib.ListN.{length, getD, drop, length-drop}
 use lib.Seq.{getD-drop}
 use lib.Dec.{ltb, leb, eqb}
-use Rattle.tlvs.specs.Octets.{num}
+use Rattle.tlvs.specs.Octets.{Octets, num}
 use Rattle.tlvs.specs.Walk.{Next, stop, met}
 use Rattle.body.specs.Variables.{descriptorStep, widthOf, containerFrom, containerStep, Container, value, indication, descriptorNext, containerNext, containerWalk}
 use Rattle.body.specs.declared.DescriptorStep.{DescriptorStep}
 use Rattle.body.specs.declared.DescriptorStep.the-variants.{End as DescriptorEnd, Broken as DescriptorBroken, Has}
 use Rattle.body.specs.declared.ContainerStep.{ContainerStep}
-use Rattle.tlvs.proofs.Numbers.{Octets, num-lt}
+use Rattle.tlvs.proofs.Numbers.{num-lt}
 use Rattle.tlvs.proofs.Walks.{by-cond}
 use Rattle.writer.specs.Octets.{oct}
 use Rattle.writer.specs.Plain.{every, plainDescriptor}

@@ -13,7 +13,7 @@ use Rattle.tlvs.specs.declared.Mark.the-variants.{End, Broken, Unknown, Known}
 use Rattle.tlvs.specs.declared.Kind.the-variants.{Events as EventKind}
 use Rattle.tlvs.specs.declared.Event.{Event}
 use Rattle.tlvs.specs.declared.EventStep.the-variants.{Has}
-use Rattle.tlvs.proofs.Numbers.{Octets}
+use Rattle.tlvs.specs.Octets.{Octets}
 use Rattle.tlvs.proofs.Rows.{four}
 use Rattle.tlvs.proofs.Marks.{Marked, mark-within, event-tabled}
 use Rattle.writer.specs.Octets.{octs, fit}

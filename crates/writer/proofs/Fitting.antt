@@ -13,7 +13,8 @@ use Rattle.tlvs.specs.Events.{eventWalk}
 use Rattle.body.specs.Variables.{descriptorWalk}
 use Rattle.frame.specs.Frame.{Body, information, notification, request, response, loopback, organization, Message, codeOf, Answer, accepted, bodyAnswer, decode}
 use Rattle.frame.specs.Steps.{Stepped}
-use Rattle.tlvs.proofs.Numbers.{Octets, num-lt}
+use Rattle.tlvs.specs.Octets.{Octets}
+use Rattle.tlvs.proofs.Numbers.{num-lt}
 use Rattle.tlvs.proofs.Walks.{by-cond}
 use Rattle.frame.proofs.Stepping.{steps-give-parts}
 use Rattle.writer.specs.Plain.{every, plainEvent, plainDescriptor}

@@ -8,10 +8,9 @@ use native.Mathlib.Nat.{zero-add}
 use borrow.Author.Tests.{ltb-false, eqb-true, not-false, lt-ltb, le-ltb}
 use lib.ListN.{length, getD, drop}
 use lib.Dec.{ltb, eqb}
-use Rattle.tlvs.specs.Octets.{num}
+use Rattle.tlvs.specs.Octets.{Octets, num}
 use Rattle.tlvs.specs.Events.{fieldsAt}
 use Rattle.frame.specs.Frame.{Message, codeOf, accepted, headerAnswer, bodyAnswer, decode}
-use Rattle.tlvs.proofs.Numbers.{Octets}
 use Rattle.tlvs.proofs.Walks.{by-cond}
 use Rattle.frame.proofs.Stepping.{shown}
 use Rattle.writer.specs.Octets.{octs, fit}

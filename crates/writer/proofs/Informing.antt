@@ -18,7 +18,7 @@ use Rattle.tlvs.specs.declared.Kind.the-variants.{Information as InformationKin
 use Rattle.body.specs.declared.Information.{Information}
 use Rattle.body.specs.declared.InformationStep.{InformationStep}
 use Rattle.body.specs.declared.InformationStep.the-variants.{Local, Remote}
-use Rattle.tlvs.proofs.Numbers.{Octets}
+use Rattle.tlvs.specs.Octets.{Octets}
 use Rattle.tlvs.proofs.Walks.{by-cond}
 use Rattle.tlvs.proofs.Marks.{Marked, mark-within, information-16}
 use Rattle.writer.specs.Octets.{octs, fit}

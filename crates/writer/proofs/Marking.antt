@@ -9,7 +9,7 @@ use borrow.Author.Tests.{eqb-true, le-ltb, lt-leb, eq-eqb, ne-eqb}
 use lib.ListN.{length, getD, drop, length-append, length-drop}
 use lib.Seq.{getD-drop}
 use lib.Dec.{ltb, leb, eqb}
-use Rattle.tlvs.specs.Octets.{num, total}
+use Rattle.tlvs.specs.Octets.{Octets, num, total}
 use Rattle.tlvs.specs.Tlvs.{tlvAt, known, marked, markAt}
 use Rattle.tlvs.specs.Events.{fieldsAt}
 use Rattle.tlvs.specs.declared.tlvs.Tlv.{Tlv}
@@ -17,7 +17,6 @@ use Rattle.tlvs.specs.declared.tlvs.Tlv.the-variants.{End as TlvEnd, Broken as 
 use Rattle.tlvs.specs.declared.Mark.{Mark}
 use Rattle.tlvs.specs.declared.Mark.the-variants.{End, Broken, Unknown, Known}
 use Rattle.tlvs.specs.declared.Kind.{Kind}
-use Rattle.tlvs.proofs.Numbers.{Octets}
 use Rattle.tlvs.proofs.Walks.{by-cond}
 use Rattle.tlvs.proofs.Marks.{Marked, mark-within}
 use Rattle.writer.specs.Octets.{octs, fit}

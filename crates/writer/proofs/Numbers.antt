@@ -10,9 +10,9 @@ use lib.Arith.{digits-div, digits-mod}
 use lib.Dec.{ltb}
 use lib.ListN.{length, getD, drop}
 use lib.Seq.{getD-drop, getD-at, drop-at, drop-drop, drop-cons}
-use Rattle.tlvs.specs.Octets.{num, total}
+use Rattle.tlvs.specs.Octets.{Octets, num, total}
 use Rattle.tlvs.specs.Events.{fieldsAt}
-use Rattle.tlvs.proofs.Numbers.{Octets, num-lt}
+use Rattle.tlvs.proofs.Numbers.{num-lt}
 use Rattle.writer.specs.Octets.{oct, octs, fit}
 use Rattle.writer.proofs.Bools.{and-l, and-r}
 use Rattle.writer.proofs.Lengths.{length-oct}

@@ -9,14 +9,13 @@ use native.Mathlib.Nat.{zero-add}
 use borrow.Author.Tests.{leb-true, ltb-true, eqb-true}
 use lib.ListN.{length, getD, drop, replicate, length-append}
 use lib.Dec.{leb, ltb, eqb}
-use Rattle.tlvs.specs.Octets.{num}
+use Rattle.tlvs.specs.Octets.{Octets, num}
 use Rattle.tlvs.specs.Walk.{parts, also, listed}
 use Rattle.body.specs.Information.{informationWalk, informationParts}
 use Rattle.tlvs.specs.Events.{eventWalk}
 use Rattle.body.specs.Variables.{descriptorWalk}
 use Rattle.frame.specs.Frame.{Body, information, notification, request, response, loopback, organization, Message, codeOf, Answer, refused, accepted, says, saysAll, bodyAnswer, decode}
 use Rattle.frame.specs.Steps.{Stepped}
-use Rattle.tlvs.proofs.Numbers.{Octets}
 use Rattle.frame.proofs.Stepping.{steps-give-parts}
 use Rattle.writer.specs.Octets.{oct}
 use Rattle.writer.specs.Encode.{eventOctets, joined, bodyOctets, encode}

@@ -9,7 +9,7 @@ use native.Mathlib.Nat.{add-zero}
 use lib.ListN.{length, getD, drop, replicate, length-append}
 use lib.Seq.{getD-drop}
 use Rattle.tlvs.specs.Walk.{Next, stop, broken, skip, has, Walk, ends, part, onNext, walk, met}
-use Rattle.tlvs.proofs.Numbers.{Octets}
+use Rattle.tlvs.specs.Octets.{Octets}
 use Rattle.writer.specs.Encode.{joined}
 use Rattle.writer.specs.Plain.{every, noneSkipped}
 use Rattle.writer.proofs.Bools.{never, and-l, and-r}
