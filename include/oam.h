@@ -27,8 +27,9 @@ extern "C" {
 #endif
 
 /*
- * The answers. 1 to 8 and 11 to 15 are given exactly when their line says, by the functions that test
- * it. When 9 and 10 are given stands at each function.
+ * The answers. 1 to 8 and 11 to 15 are given when their line says and no earlier test refuses: of a
+ * frame 1 to 5 in order, then the body in the order of its octets; of a request in the order that
+ * stands there. When 9 and 10 are given stands at each function.
  */
 enum {
     OAM_ACCEPTED = 0,
@@ -279,26 +280,26 @@ uint64_t oam_fresh(uint8_t configuration, uint16_t size, uint32_t oui, uint32_t 
                    uint8_t required, uint8_t *state, size_t state_len);
 
 /*
- * Takes one tick of 100 ms. Writes an Information frame where one is owed, and where the timer second
- * closes: not in PASSIVE_WAIT, and with the link down only if unidirectional. Returns an outcome:
- * accepted, or OAM_SHORT_OUTPUT for an output under OAM_LEAST_OUT octets, also where nothing would be
- * written; the tick is not counted then.
+ * Takes one tick of 100 ms. Writes an Information frame where one is owed and fewer than ten frames are
+ * written in this timer second, and where the second closes: not in PASSIVE_WAIT, and with the link down
+ * only if unidirectional. Returns an outcome: accepted, or OAM_SHORT_OUTPUT for an output under
+ * OAM_LEAST_OUT octets, also where nothing would be written; the tick is not counted then.
  */
 uint64_t oam_tick(uint8_t *state, size_t state_len, uint8_t *out, size_t out_len);
 
 /*
- * Takes one report. Writes an Information frame where one is owed. Returns an outcome: accepted,
- * OAM_OUT_OF_RANGE for a number that is no report, or OAM_SHORT_OUTPUT for an output under OAM_LEAST_OUT
- * octets, also where nothing would be written.
+ * Takes one report. Writes an Information frame as a tick does where one is owed. Returns an outcome:
+ * accepted, OAM_OUT_OF_RANGE for a number that is no report, or OAM_SHORT_OUTPUT for an output under
+ * OAM_LEAST_OUT octets, also where nothing would be written.
  */
 uint64_t oam_report(uint8_t report, uint8_t *state, size_t state_len, uint8_t *out, size_t out_len);
 
 /*
  * Takes one received frame. Of an accepted one four numbers are stored in the header: source, flags,
  * code, and the event number where the events are new, else 0. Whether they are new is what oam_shown
- * says, since an event number may be 0. Writes an Information frame where one is owed. Returns an
- * outcome: accepted, OAM_SHORT_OUTPUT for a header under OAM_HEADER_NUMBERS numbers or an output under
- * OAM_LEAST_OUT octets, before all else, or a refusal 1 to 8 of the frame.
+ * says, since an event number may be 0. Writes an Information frame as a tick does where one is owed.
+ * Returns an outcome: accepted, OAM_SHORT_OUTPUT for a header under OAM_HEADER_NUMBERS numbers or an
+ * output under OAM_LEAST_OUT octets, before the frame is read, or a refusal 1 to 8 of the frame.
  */
 uint64_t oam_receive(const uint8_t *frame, size_t frame_len, uint64_t *header, size_t header_len, uint8_t *state,
                      size_t state_len, uint8_t *out, size_t out_len);

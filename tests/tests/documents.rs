@@ -234,6 +234,13 @@ fn functions_named(text: &str) -> Vec<&str> {
         .collect()
 }
 
+/// The first cells of the tables of a text.
+fn first_column(text: &str) -> String {
+    let rows = text.lines().filter_map(|line| line.strip_prefix('|'));
+    let cells: Vec<&str> = rows.filter_map(|row| row.split('|').next()).collect();
+    cells.join("\n")
+}
+
 /// Those of some functions that a text does not name.
 fn not_named<'a>(text: &str, functions: &'a [Public]) -> Vec<&'a str> {
     let named = functions_named(text);
@@ -245,7 +252,7 @@ fn not_named<'a>(text: &str, functions: &'a [Public]) -> Vec<&'a str> {
 fn every_public_function_is_among_the_promises() {
     let promises = text(&repository().join("docs/PROMISES.md"));
     for (name, functions) in all_public_functions() {
-        let missing = not_named(section(&promises, &name), &functions);
+        let missing = not_named(&first_column(section(&promises, &name)), &functions);
         assert!(
             missing.is_empty(),
             "docs/PROMISES.md does not name {missing:?} of {name}"
@@ -370,6 +377,14 @@ fn every_function_that_gives_an_end_is_said_to_keep_the_ranges() {
         missing.is_empty(),
         "under \"## end\" of docs/PROMISES.md the paragraph \"{start}\" does not name {missing:?}"
     );
+    let theorems = text(&repository().join("crates/reach/proofs/Guarding.antt"));
+    for function in &functions {
+        let theorem = format!("{}-guarded", function.name.replace('_', "-"));
+        assert!(
+            stands_in(&theorems, &theorem),
+            "no {theorem} in Guarding.antt"
+        );
+    }
 }
 
 #[test]

@@ -2,11 +2,12 @@
 -- calls make of a fresh one. So every entry takes them again, and what is shown of every run of the machine is so of the archive.
 use Prim.Native.Nat.{ℕ}
 use mathlib.Core.Path.{_≡_, refl, sym, ap, _∙_}
-use mathlib.Core.List.{List, [], _∷_}
+use mathlib.Core.List.{List, [], _∷_, _++_}
 use mathlib.Core.Bool.{true, false}
 use borrow.Author.Tests.{eqb-false, eq-eqb}
 use lib.Dec.{ltb, leb, eqb}
 use lib.ListN.{length}
+use lib.Seq.{sets}
 use Rattle.peer.specs.declared.Settings.{Settings}
 use Rattle.end.specs.declared.End.{End}
 use Rattle.end.specs.declared.FreshEnd.{FreshEnd}
@@ -16,15 +17,15 @@ use Rattle.end.specs.State.{freshEnd, freshOf}
 use Rattle.packing.specs.Octets.{packedIn, unpacked}
 use Rattle.packing.proofs.Packing.{unpacked-packed, unpacked-ranged, stored-unpacked}
 use Rattle.concluding.specs.Concluding.{steppedNumber, steppedState}
-use Rattle.reach.specs.Machine.{Input, tick, report, receive, request, Call, outcomeOf}
+use Rattle.reach.specs.Machine.{tick, report, receive, request, Call, outcomeOf}
 use Rattle.reach.specs.Runs.{after}
 use Rattle.reach.specs.Premises.{Accepted, OfOctets, AllOfOctets}
 use Rattle.reach.proofs.Bools.{whether}
 use Rattle.reach.proofs.Refusing.{refused-unchanged}
 use Rattle.reach.proofs.Standing.{fresh-ranged}
 use Rattle.reach.proofs.Ranging.{call-ranged}
-use Rattle.oam.specs.Machine.{answered, kept, wrote, freshFor, freshState, reportFrom, reportedBy, receivedBy}
-use Rattle.archive.specs.Entries.{Handed, ticks, reports, receives, asks, EntryCall, outcomeFor, outputFor, comesTo, keptAfter, inputsOf, before, callsIn, HandedOctets, AllHandedOctets}
+use Rattle.oam.specs.Machine.{answered, kept, wrote, heardShown, heardIn, freshFor, freshState, reportFrom, reportedBy, receivedBy}
+use Rattle.archive.specs.Entries.{EntryInput, ticks, reports, receives, asks, EntryCall, outcomeFor, outputFor, comesTo, keptAfter, callOf, callsIn, EntryOctets, AllOfOctetsIn}
 
 -- what oam_fresh stores for settings that the paper takes
 made-fresh : (s : Settings) → Accepted s → (state : List ℕ) → length state ≡ 48 → freshFor s state ≡ Is (freshEnd s)
@@ -55,8 +56,8 @@ stored-call x e c o h =
     rw f (h ∙ ap (λ (y : End). Is y) (sym same)))
 
 -- a call of an entry, stored
-stored-entry : (h : Handed) (out x : List ℕ) (e : End) → HandedOctets h → unpacked x ≡ Is e
-    → unpacked (steppedState (outcomeFor h (length out) e) x) ≡ Is (endAfter (before out (inputsOf h) []) e)
+stored-entry : (h : EntryInput) (out x : List ℕ) (e : End) → EntryOctets h → unpacked x ≡ Is e
+    → unpacked (steppedState (outcomeFor h (length out) e) x) ≡ Is (endAfter (callOf h out) e)
 unfolding reportedBy receivedBy steppedState
 stored-entry ticks out x e o k = stored-call x e (record { input = tick; out = out }) tt k
 stored-entry (reports n) out x e o k =
@@ -65,26 +66,31 @@ stored-entry (receives f room) out x e o k =
     whether (ltb room 4) (λ t. rw t k) (λ g. rw g (stored-call x e (record { input = receive f; out = out }) o k))
 stored-entry (asks q) out x e o k = stored-call x e (record { input = request q; out = out }) tt k
 
-after-before : (s : Settings) (out : List ℕ) (is : List Input) (cs : List Call) → endAfter (before out is []) (after s cs) ≡ after s (before out is cs)
-after-before s out [] cs = refl
-after-before s out (i ∷ is) cs = ap (λ (e : End). outcomeOf (record { input = i; out = out }) e .end) (after-before s out is cs)
+after-appended : (s : Settings) (new cs : List Call) → endAfter new (after s cs) ≡ after s (new ++ cs)
+after-appended s [] cs = refl
+after-appended s (c ∷ new) cs = ap (λ (e : End). outcomeOf c e .end) (after-appended s new cs)
 
 -- ---- every history
 
 module _ (s : Settings) (a : Accepted s) (state : List ℕ) (l : length state ≡ 48) where
-  pub kept-run : (xs : List EntryCall) → AllHandedOctets xs → unpacked (keptAfter s state xs) ≡ Is (after s (callsIn xs))
+  pub kept-run : (xs : List EntryCall) → AllOfOctetsIn xs → unpacked (keptAfter s state xs) ≡ Is (after s (callsIn xs))
   kept-run [] o = stored-fresh s a state l
   kept-run (x ∷ xs) o =
       let h = kept-run xs (o .1) in
       ap (λ (f : FreshEnd). unpacked (kept (comesTo x) f (keptAfter s state xs))) h
-      ∙ stored-entry (x .handed) (x .out) (keptAfter s state xs) (after s (callsIn xs)) (o .0) h
-      ∙ ap (λ (e : End). Is e) (after-before s (x .out) (inputsOf (x .handed)) (callsIn xs))
+      ∙ stored-entry (x .input) (x .out) (keptAfter s state xs) (after s (callsIn xs)) (o .0) h
+      ∙ ap (λ (e : End). Is e) (after-appended s (callOf (x .input) (x .out)) (callsIn xs))
 
   -- and the next entry answers and writes as the machine does in that run
-  pub entry-answers : (x : EntryCall) (xs : List EntryCall) → AllHandedOctets xs
+  pub entry-answers : (x : EntryCall) (xs : List EntryCall) → AllOfOctetsIn xs
       → answered (comesTo x) (unpacked (keptAfter s state xs)) ≡ steppedNumber (comesTo x (after s (callsIn xs)))
   entry-answers x xs o = ap (λ (f : FreshEnd). answered (comesTo x) f) (kept-run xs o)
 
-  pub entry-writes : (x : EntryCall) (xs : List EntryCall) → AllHandedOctets xs
-      → wrote (outputFor (x .handed)) (unpacked (keptAfter s state xs)) (x .out) ≡ outputFor (x .handed) (after s (callsIn xs)) (x .out)
-  entry-writes x xs o = ap (λ (f : FreshEnd). wrote (outputFor (x .handed)) f (x .out)) (kept-run xs o)
+  pub entry-writes : (x : EntryCall) (xs : List EntryCall) → AllOfOctetsIn xs
+      → wrote (outputFor (x .input)) (unpacked (keptAfter s state xs)) (x .out) ≡ outputFor (x .input) (after s (callsIn xs)) (x .out)
+  entry-writes x xs o = ap (λ (f : FreshEnd). wrote (outputFor (x .input)) f (x .out)) (kept-run xs o)
+
+  -- what `oam_receive` stores in the header is what the machine shows
+  pub entry-hears : (x : EntryCall) (xs : List EntryCall) (header : List ℕ) → AllOfOctetsIn xs
+      → heardIn (comesTo x) (unpacked (keptAfter s state xs)) header ≡ sets header 0 (heardShown (comesTo x (after s (callsIn xs)) .shown) .numbers)
+  entry-hears x xs header o = ap (λ (f : FreshEnd). heardIn (comesTo x) f header) (kept-run xs o)

@@ -32,7 +32,7 @@ use Rattle.reach.proofs.Coming.{noted, Comes, refuses, concludes, grants, comes
 use Rattle.reach.proofs.Refusing.{concludes-0}
 use Rattle.reach.proofs.Framing.{silent-or-writes}
 use Rattle.oam.specs.Machine.{reportFrom, reportedBy, receivedBy}
-use Rattle.archive.specs.Entries.{Handed, ticks, reports, receives, asks, EntryCall, comesTo, HandedOctets, Parts}
+use Rattle.archive.specs.Entries.{EntryInput, ticks, reports, receives, asks, EntryCall, comesTo, EntryOctets, InBits}
 
 -- ---- where each part is small enough
 
@@ -41,7 +41,7 @@ pub record Small (o : Outcome) : Type 0 where
   pub length : o .length ≤ 1514
   pub octet : o .state ≤ 6
 
-pub whole : (o : Outcome) → Small o → Parts o (steppedNumber o)
+pub whole : (o : Outcome) → Small o → InBits o (steppedNumber o)
 unfolding steppedNumber
 whole o h =
     let n = o .answer + o .length % 2 ^ 32 * 2 ^ 8 + o .state * 2 ^ 40 + kindOf (o .shown) * 2 ^ 48 in
@@ -94,7 +94,7 @@ call-small c e o r = record { answer = call-answer c e (comes c e); length = cal
 
 -- ---- so of every entry
 
-entry-small : (h : Handed) (out : List ℕ) (e : End) → HandedOctets h → ranged e ≡ true → Small (comesTo (record { handed = h; out = out }) e)
+entry-small : (h : EntryInput) (out : List ℕ) (e : End) → EntryOctets h → ranged e ≡ true → Small (comesTo (record { input = h; out = out }) e)
 unfolding reportedBy receivedBy
 entry-small ticks out e o r = call-small (record { input = tick; out = out }) e tt r
 entry-small (reports n) out e o r =
@@ -103,6 +103,6 @@ entry-small (receives f room) out e o r =
     by-cond Small (ltb room 4) (λ _. refusal-small 9 e (omega arith)) (λ _. call-small (record { input = receive f; out = out }) e o r)
 entry-small (asks q) out e o r = call-small (record { input = request q; out = out }) e tt r
 
-pub entry-whole : (x : EntryCall) (state : List ℕ) (e : End) → HandedOctets (x .handed) → unpacked state ≡ Is e
-    → Parts (comesTo x e) (steppedNumber (comesTo x e))
-entry-whole x state e o h = whole (comesTo x e) (entry-small (x .handed) (x .out) e o (unpacked-ranged state e h))
+pub entry-whole : (x : EntryCall) (state : List ℕ) (e : End) → EntryOctets (x .input) → unpacked state ≡ Is e
+    → InBits (comesTo x e) (steppedNumber (comesTo x e))
+entry-whole x state e o h = whole (comesTo x e) (entry-small (x .input) (x .out) e o (unpacked-ranged state e h))

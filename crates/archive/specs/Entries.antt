@@ -2,7 +2,7 @@
 -- octets after all of them.
 use Prim.Native.Nat.{ℕ, _/_, _%_, _^_}
 use mathlib.Core.Path.{_≡_}
-use mathlib.Core.List.{List, [], _∷_}
+use mathlib.Core.List.{List, [], _∷_, _++_}
 use mathlib.Core.Bool.{cond}
 use lib.Dec.{ltb, leb}
 use lib.ListN.{length}
@@ -11,39 +11,39 @@ use Rattle.end.specs.declared.End.{End}
 use Rattle.link.specs.declared.Outcome.{Outcome}
 use Rattle.concluding.specs.Concluding.{kindOf}
 use Rattle.packing.specs.Octets.{unpacked}
-use Rattle.reach.specs.Machine.{Request, Input, tick, report, receive, request, Call, outcomeBy, outputBy}
+use Rattle.reach.specs.Machine.{Request, tick, report, receive, request, Call, outcomeBy, outputBy}
 use Rattle.reach.specs.Premises.{OfOctets}
 use Rattle.oam.specs.Machine.{kept, freshFor, freshState, reportFrom, reportedBy, reportedOutput, receivedBy, receivedOutput}
 
 -- what an entry is handed beside the state and the output: oam_tick nothing, oam_report a number, oam_receive a frame and a header
 -- with room for some numbers, oam_start, oam_stop, oam_request, oam_notify and oam_organization a request
-pub data Handed : Type 0 where
-  ticks : Handed
-  reports : ℕ → Handed
-  receives : List ℕ → (room : ℕ) → Handed
-  asks : Request → Handed
+pub data EntryInput : Type 0 where
+  ticks : EntryInput
+  reports : ℕ → EntryInput
+  receives : List ℕ → (room : ℕ) → EntryInput
+  asks : Request → EntryInput
 
 -- a call of an entry, with the octets of the lent output
 pub record EntryCall : Type 0 where
-  pub handed : Handed
+  pub input : EntryInput
   pub out : List ℕ
 
 -- what the entry's contract says of an end that it finds, for an output of some octets: the outcome
-abbrev pub outcomeFor : Handed → ℕ → End → Outcome
+abbrev pub outcomeFor : EntryInput → ℕ → End → Outcome
 outcomeFor ticks octets e = outcomeBy tick octets e
 outcomeFor (reports n) octets e = reportedBy n octets e
 outcomeFor (receives f room) octets e = receivedBy f room octets e
 outcomeFor (asks q) octets e = outcomeBy (request q) octets e
 
 -- and the output after it
-abbrev pub outputFor : Handed → End → List ℕ → List ℕ
+abbrev pub outputFor : EntryInput → End → List ℕ → List ℕ
 outputFor ticks e out = outputBy tick e out
 outputFor (reports n) e out = reportedOutput n e out
 outputFor (receives f room) e out = receivedOutput f room e out
 outputFor (asks q) e out = outputBy (request q) e out
 
 abbrev pub comesTo : EntryCall → End → Outcome
-comesTo x e = outcomeFor (x .handed) (length (x .out)) e
+comesTo x e = outcomeFor (x .input) (length (x .out)) e
 
 -- the octets that calls of entries, the latest first, leave of a state that oam_fresh was handed
 abbrev pub keptAfter : Settings → List ℕ → List EntryCall → List ℕ
@@ -52,37 +52,33 @@ keptAfter s state (x ∷ xs) = kept (comesTo x) (unpacked (keptAfter s state xs)
 
 -- ---- the machine's calls among them
 
--- a number that is no report and a header that is too short are refused by the entry itself: the machine is not called
-abbrev pub inputsOf : Handed → List Input
-inputsOf ticks = tick ∷ []
-inputsOf (reports n) = cond (leb n 5) (report (reportFrom n) ∷ []) []
-inputsOf (receives f room) = cond (ltb room 4) [] (receive f ∷ [])
-inputsOf (asks q) = request q ∷ []
-
-abbrev pub before : List ℕ → List Input → List Call → List Call
-before out [] cs = cs
-before out (i ∷ is) cs = record { input = i; out = out } ∷ before out is cs
+-- one call, or none: a number that is no report and a header that is too short are refused by the entry itself
+abbrev pub callOf : EntryInput → List ℕ → List Call
+callOf ticks out = record { input = tick; out = out } ∷ []
+callOf (reports n) out = cond (leb n 5) (record { input = report (reportFrom n); out = out } ∷ []) []
+callOf (receives f room) out = cond (ltb room 4) [] (record { input = receive f; out = out } ∷ [])
+callOf (asks q) out = record { input = request q; out = out } ∷ []
 
 abbrev pub callsIn : List EntryCall → List Call
 callsIn [] = []
-callsIn (x ∷ xs) = before (x .out) (inputsOf (x .handed)) (callsIn xs)
+callsIn (x ∷ xs) = callOf (x .input) (x .out) ++ callsIn xs
 
 -- ---- what the theorems presuppose: received frames are of octets, as every slice of them is
 
-abbrev pub HandedOctets : Handed → Type 0
-HandedOctets ticks = Unit {0}
-HandedOctets (reports n) = Unit {0}
-HandedOctets (receives f room) = OfOctets (receive f)
-HandedOctets (asks q) = Unit {0}
+abbrev pub EntryOctets : EntryInput → Type 0
+EntryOctets ticks = Unit {0}
+EntryOctets (reports n) = Unit {0}
+EntryOctets (receives f room) = OfOctets (receive f)
+EntryOctets (asks q) = Unit {0}
 
-abbrev pub AllHandedOctets : List EntryCall → Type 0
-AllHandedOctets [] = Unit {0}
-AllHandedOctets (x ∷ xs) = HandedOctets (x .handed) × AllHandedOctets xs
+abbrev pub AllOfOctetsIn : List EntryCall → Type 0
+AllOfOctetsIn [] = Unit {0}
+AllOfOctetsIn (x ∷ xs) = EntryOctets (x .input) × AllOfOctetsIn xs
 
 -- ---- an outcome as one number
 
 -- the parts of an outcome, each in the bits of the number that are its own
-pub record Parts (o : Outcome) (n : ℕ) : Type 0 where
+pub record InBits (o : Outcome) (n : ℕ) : Type 0 where
   pub answer : n % 2 ^ 8 ≡ o .answer
   pub written : n / 2 ^ 8 % 2 ^ 32 ≡ o .length
   pub octet : n / 2 ^ 40 % 2 ^ 8 ≡ o .state

@@ -7,17 +7,7 @@ use native.Mathlib.Omega.{arith}
 use Rattle.discovery.specs.declared.Discovery.{Discovery}
 use Rattle.discovery.specs.declared.Discovery.the-variants.{Fault, ActiveSendLocal, PassiveWait, SendLocalRemote, SendLocalRemoteOk, SendAny}
 use Rattle.discovery.specs.Standing.{standsAt}
-use Rattle.discovery.specs.Moves.{Move, sends-first, waits-first, sender-hears, waiter-hears, is-satisfied, is-complete, ok-unsatisfied, any-unsatisfied, any-incomplete, Moves, none, then, Rests, Settles}
-
--- Where a call can find discovery: a state that the link, the mode and the record still bear out. Entering FAULT clears the
--- record, so FAULT is found with any.
-abbrev pub Borne : (up active held : Bool) → Discovery → Type 0
-Borne up active held Fault = Unit
-Borne up active held ActiveSendLocal = (up ≡ true) × (active ≡ true)
-Borne up active held PassiveWait = (up ≡ true) × (active ≡ false)
-Borne up active held SendLocalRemote = (up ≡ true) × (held ≡ true)
-Borne up active held SendLocalRemoteOk = (up ≡ true) × (held ≡ true)
-Borne up active held SendAny = (up ≡ true) × (held ≡ true)
+use Rattle.discovery.specs.Moves.{Move, sends-first, waits-first, sender-hears, waiter-hears, is-satisfied, is-complete, ok-unsatisfied, any-unsatisfied, any-incomplete, Moves, none, then, Rests, Settles, Borne}
 
 -- where discovery stood is borne out by any later record, unless FAULT was entered: a record once held stays held
 pub borne : (up active held satisfied complete later : Bool) → (held ≡ true → later ≡ true) → Borne up active later (standsAt up active held satisfied complete)

@@ -37,3 +37,13 @@ pub record Settles (up active held satisfied complete : Bool) (from to : Discove
   pub count : ℕ
   pub moves : Moves up active held satisfied complete count from to
   pub rests : Rests up active held satisfied complete to
+
+-- Where a call can find discovery: a state that the link, the mode and the record still bear out. Entering FAULT clears the
+-- record, so FAULT is found with any.
+abbrev pub Borne : (up active held : Bool) → Discovery → Type 0
+Borne up active held Fault = Unit
+Borne up active held ActiveSendLocal = (up ≡ true) × (active ≡ true)
+Borne up active held PassiveWait = (up ≡ true) × (active ≡ false)
+Borne up active held SendLocalRemote = (up ≡ true) × (held ≡ true)
+Borne up active held SendLocalRemoteOk = (up ≡ true) × (held ≡ true)
+Borne up active held SendAny = (up ≡ true) × (held ≡ true)

@@ -3,7 +3,7 @@
 // The state is cut by who changes it, so that what a step does not touch stays as it is by computation. An end's parts are
 // given out and taken back whole (`end_with` tests them), and nothing but a step of this crate changes one. Every step is
 // total on any end, and every public function here that gives an end gives one that keeps to its ranges for one that does
-// (shown in `reach`): a request's test and its step are one function, and what is heard comes of a frame alone.
+// (shown in `reach`): a request's answer and its step are one function, and what is heard comes of a frame alone.
 mod granting;
 mod hearing;
 mod ranges;

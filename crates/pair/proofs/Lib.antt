@@ -8,3 +8,4 @@ pub mod Steps
 pub mod Safety
 pub mod Witness
 pub mod Examples
+pub mod Reaching

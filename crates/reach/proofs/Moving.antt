@@ -16,7 +16,8 @@ use Rattle.loopback.specs.declared.Role.the-variants.{Idle}
 use Rattle.discovery.specs.declared.Discovery.{Discovery}
 use Rattle.discovery.specs.declared.Discovery.the-variants.{Fault}
 use Rattle.discovery.specs.Standing.{isLost}
-use Rattle.discovery.proofs.Resting.{Borne, borne, settles, only-there}
+use Rattle.discovery.specs.Moves.{Borne}
+use Rattle.discovery.proofs.Resting.{borne, settles, only-there}
 use Rattle.end.specs.declared.End.{End}
 use Rattle.end.specs.declared.Heard.{Heard}
 use Rattle.end.specs.declared.Report.{Report}

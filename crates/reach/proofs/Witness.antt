@@ -1,6 +1,6 @@
 -- The theorems are not empty: there are runs of one end in which it loops, writes ten frames in a second and has the eleventh
--- refused, and loses its link.
-use Prim.Native.Nat.{ℕ}
+-- refused, and loses its link. With the runs after these each slip that tests/definitions tries makes one of them come out otherwise.
+use Prim.Native.Nat.{ℕ, _*_}
 use mathlib.Core.Path.{_≡_, refl}
 use mathlib.Core.List.{List, [], _∷_, _++_}
 use mathlib.Core.Bool.{true}
@@ -22,7 +22,7 @@ use Rattle.peer.specs.Peers.{hasAll, satisfies, satisfied, peerActive, peerLoop
 use Rattle.peer.specs.Ranges.{sound}
 use Rattle.discovery.specs.Sending.{remoteField, faultFlag, ownInformation, clearedInformation, clearedHeld}
 use Rattle.peer.specs.declared.Settings.{Settings}
-use Rattle.loopback.specs.declared.Role.the-variants.{Looping}
+use Rattle.loopback.specs.declared.Role.the-variants.{Idle, Looping}
 use Rattle.discovery.specs.declared.Discovery.the-variants.{ActiveSendLocal}
 use Rattle.end.specs.declared.Report.the-variants.{LinkUp}
 use Rattle.end.specs.Taking.{learned, obeysCommand, obeyed, roleAfter, acted, isRepeat, shownEvents, shownOf, takenUp, taken, takenDue}
@@ -36,7 +36,7 @@ use Rattle.link.specs.Outcomes.{informationToSend, concluded, concludedOutput}
 use Rattle.end.specs.State.{freshEnd, discoveryOf, inAny, faulted, settled}
 use Rattle.end.specs.Ticking.{missed, ticked, tickedDue}
 use Rattle.link.specs.Ticks.{tickOf, tickOutput}
-use Rattle.reach.specs.Machine.{Input, tick, report, receive, request, tell, Call, outcomeOf}
+use Rattle.reach.specs.Machine.{Input, tick, report, receive, request, start, tell, Call, outcomeOf}
 use Rattle.reach.specs.Runs.{after, history}
 use Rattle.reach.specs.Seconds.{framesIn}
 
@@ -49,6 +49,9 @@ machine = tt
 abbrev settings : Settings
 settings = record { configuration = 5; size = 1518; oui = 1; vendor = 2; source = 4; required = 4 }
 
+abbrev passiveSettings : Settings
+passiveSettings = record { configuration = 4; size = 1518; oui = 1; vendor = 2; source = 4; required = 4 }
+
 abbrev peer : Information
 peer = record { version = 1; revision = 0; state = 0; configuration = 5; oampdu = 1518; oui = 1; vendor = 2 }
 
@@ -56,16 +59,28 @@ peer = record { version = 1; revision = 0; state = 0; configuration = 5; oampdu 
 abbrev takes : Input → Call
 takes i = record { input = i; out = replicate 60 0 }
 
--- the peer's frames say that its discovery is complete
+-- a frame of the peer with its local field
+abbrev hearsWith : ℕ → Body → Call
+hearsWith field b = takes (receive (encode (messageOf 3 (field * 8) b)))
+
+-- one that says that the peer's discovery is complete
 abbrev hears : Body → Call
-hears b = takes (receive (encode (messageOf 3 16 b)))
+hears b = hearsWith 2 b
 
 abbrev tells : Call
 tells = takes (request (tell 1 (replicate 39 0)))
 
--- the link comes up, and the peer's Local TLV and its enable are heard: three frames are written
+-- the link comes up, and the peer's Local TLV is heard
+abbrev met : List Call
+met = hears (information (local peer ∷ [])) ∷ takes (report LinkUp) ∷ []
+
+-- and its enable: three frames are written
 abbrev looped : List Call
-looped = hears (loopback 1) ∷ hears (information (local peer ∷ [])) ∷ takes (report LinkUp) ∷ []
+looped = hears (loopback 1) ∷ met
+
+-- the same of a peer that is not complete
+abbrev early : List Call
+early = hearsWith 1 (loopback 1) ∷ hearsWith 1 (information (local peer ∷ [])) ∷ takes (report LinkUp) ∷ []
 
 -- seven requests more
 abbrev busy : List Call
@@ -88,6 +103,17 @@ pub record Witness : Type 0 where
   -- a lost-link count of 49 stays, 50 enters FAULT
   pub forty-nine : after settings (quiet 49) .role ≡ Looping
   pub fifty : discoveryOf (after settings (quiet 50)) ≡ ActiveSendLocal
+  -- an enable before SEND_ANY is not obeyed, and leaving SEND_ANY ends the loop
+  pub too-early : after settings early .role ≡ Idle
+  pub leaves : after settings (hearsWith 1 (information []) ∷ looped) .role ≡ Idle
+  -- "a received 3 keeps the last value"
+  pub three : after settings (hearsWith 3 (information []) ∷ looped) .peer .kept ≡ 2
+  -- a refused frame does not restart the lost-link count
+  pub refused : after settings (takes (receive []) ∷ takes tick ∷ looped) .link .lost ≡ 1
+  -- a passive end may not start
+  pub passive : outcomeOf (takes (request start)) (after passiveSettings met) .answer ≡ 15
+  -- what a start leaves owed, another request does not settle
+  pub owed : after settings (tells ∷ takes (request start) ∷ met) .own .owed ≡ true
 
 pub witness : Witness
 unfolding machine
@@ -101,4 +127,10 @@ witness =
       tenth-tick = refl;
       forty-nine = refl;
       fifty = refl;
+      too-early = refl;
+      leaves = refl;
+      three = refl;
+      refused = refl;
+      passive = refl;
+      owed = refl;
     }
