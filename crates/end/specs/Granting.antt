@@ -31,14 +31,26 @@ granted before e = withMeter (chargedMeter (dues before false e .meter)) (dues b
 unfoldable pub decided : ℕ → End → End → Decided
 decided answer e next = record { answer = answer; end = cond (eqb answer 0) (granted e next) e }
 
--- "Start (Idle or Asking): Asking, enable sent.", by the lent output's length; a loopback command's frame has 60 octets
-unfoldable pub grantedStart : ℕ → End → Decided
-grantedStart lent e =
-    decided (answerTo 60 (mayStart (e .settings .configuration) (e .peer .held) (e .role)) lent e) e (withRole Asking e)
+-- "Start (Idle or Asking): Asking, enable sent.": whether the end may, and what it makes of it
+abbrev pub startAllowed : End → Bool
+startAllowed e = mayStart (e .settings .configuration) (e .peer .held) (e .role)
+
+abbrev pub started : End → End
+started e = withRole Asking e
 
 -- "Stop (Asking, Holding, Ending): Ending, disable sent."
+abbrev pub stopAllowed : End → Bool
+stopAllowed e = mayStop (e .settings .configuration) (e .role)
+
+abbrev pub stopped : End → End
+stopped e = withRole Ending e
+
+-- both by the lent output's length; a loopback command's frame has 60 octets
+unfoldable pub grantedStart : ℕ → End → Decided
+grantedStart lent e = decided (answerTo 60 (startAllowed e) lent e) e (started e)
+
 unfoldable pub grantedStop : ℕ → End → Decided
-grantedStop lent e = decided (answerTo 60 (mayStop (e .settings .configuration) (e .role)) lent e) e (withRole Ending e)
+grantedStop lent e = decided (answerTo 60 (stopAllowed e) lent e) e (stopped e)
 
 -- a frame that changes nothing else of the end
 unfoldable pub grantedFrame : ℕ → Bool → ℕ → End → Decided

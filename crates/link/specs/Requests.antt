@@ -8,17 +8,13 @@ use Rattle.frame.specs.Frame.{Body, notification, request, loopback, organizati
 use Rattle.writer.specs.Plain.{sized}
 use Rattle.writer.specs.Writing.{writes, written, messageOf, eventsOf}
 use Rattle.peer.specs.Bits.{bit}
-use Rattle.loopback.specs.Loopback.{mayStart, mayStop}
-use Rattle.loopback.specs.declared.Role.{Role}
-use Rattle.loopback.specs.declared.Role.the-variants.{Asking, Ending}
 use Rattle.end.specs.declared.End.{End}
 use Rattle.end.specs.declared.Decided.{Decided}
 use Rattle.end.specs.declared.Shown.the-variants.{Nothing}
 use Rattle.link.specs.declared.Outcome.{Outcome}
-use Rattle.end.specs.State.{withRole}
 use Rattle.end.specs.Sending.{flagsToSend}
 use Rattle.link.specs.Outcomes.{lengthOf, outcome}
-use Rattle.end.specs.Granting.{answerTo, decided, numbered}
+use Rattle.end.specs.Granting.{answerTo, decided, numbered, startAllowed, started, stopAllowed, stopped}
 
 -- a request: whether the role, the mode and the peer's capability allow it, what it makes of the end, and the body of its frame
 pub record Asked : Type 0 where
@@ -26,17 +22,13 @@ pub record Asked : Type 0 where
   pub next : End
   pub body : Body
 
--- a loopback command, and the role that the end takes with it
-abbrev pub commanding : Bool → Role → ℕ → End → Asked
-commanding permitted role command e = record { permitted = permitted; next = withRole role e; body = loopback command }
-
--- "Start (Idle or Asking): Asking, enable sent."
+-- "enable sent"
 abbrev pub starting : End → Asked
-starting e = commanding (mayStart (e .settings .configuration) (e .peer .held) (e .role)) Asking 1 e
+starting e = record { permitted = startAllowed e; next = started e; body = loopback 1 }
 
--- "Stop (Asking, Holding, Ending): Ending, disable sent."
+-- "disable sent"
 abbrev pub stopping : End → Asked
-stopping e = commanding (mayStop (e .settings .configuration) (e .role)) Ending 2 e
+stopping e = record { permitted = stopAllowed e; next = stopped e; body = loopback 2 }
 
 -- "A Variable Request from a passive end: 15."
 abbrev pub requesting : List ℕ → End → Asked
