@@ -22,3 +22,7 @@ export CARGO_TARGET_X86_64_UNKNOWN_LINUX_GNU_LINKER=$cc CARGO_TARGET_X86_64_UNKN
 
 # The tests that need no archive, compiled for this machine: under the emulator they take many times as long.
 natively() { env -u RUSTC -u CARGO_BUILD_TARGET cargo "$1" --quiet --release --manifest-path tests/Cargo.toml "${@:2}"; }
+
+# What `figures` counts instructions with: valgrind cannot run a program of x86-64 here.
+export OAM_COUNTING_PLUGIN="$PWD/target/counting.so"
+counting() { gcc -std=c11 -O2 -shared -fPIC -Wall -Wextra -Wpedantic -Werror tests/counting/plugin.c -o "$OAM_COUNTING_PLUGIN"; }

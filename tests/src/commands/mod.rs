@@ -101,7 +101,7 @@ const ALL: &[Command] = &[
     Command {
         name: "counted",
         form: "",
-        purpose: "make each call of figures once, for callgrind to count; figures runs it",
+        purpose: "make each call of figures once, to be counted; figures runs it",
         options: &[],
         run: figures::counted,
     },

@@ -1,8 +1,8 @@
 //! The two sides of a row of a table: they are timed, or their instructions are
 //! counted.
 
-use oam_tests::measure::callgrind::counted;
 use oam_tests::measure::clock::times;
+use oam_tests::measure::instructions::counted;
 use std::collections::BTreeMap;
 use std::hint::black_box;
 
@@ -20,29 +20,37 @@ pub trait Meter {
 /// The instructions of each row's two calls.
 pub type Instructions = BTreeMap<String, [u64; 2]>;
 
-/// Prints rows: nanoseconds, and the instructions that are known.
-pub struct Clock {
-    pub runs: usize,
+/// Prints rows: nanoseconds where there are runs, and the instructions that are
+/// known.
+pub struct Table {
+    pub runs: Option<usize>,
     pub instructions: Instructions,
 }
 
-impl Clock {
+impl Table {
     pub fn head(&self) {
-        println!("| Call | ns | by hand | ratio | instructions | by hand | ratio |");
-        println!("|---|---|---|---|---|---|---|");
+        let (names, lines) = match self.runs {
+            Some(_) => (" ns | by hand | ratio |", "---|---|---|"),
+            None => ("", ""),
+        };
+        println!("| Call |{names} instructions | by hand | ratio |");
+        println!("|---|{lines}---|---|---|");
     }
 }
 
-impl Meter for Clock {
+impl Meter for Table {
     fn row<A: PartialEq, B: PartialEq>(
         &mut self,
         what: &str,
         archive: impl FnMut() -> A,
         own: impl FnMut() -> B,
     ) {
-        let [archive, own] = times(self.runs, archive, own);
-        let ratio = archive / own;
-        print!("| {what} | {archive:.1} | {own:.1} | {ratio:.2} |");
+        print!("| {what} |");
+        if let Some(runs) = self.runs {
+            let [archive, own] = times(runs, archive, own);
+            let ratio = archive / own;
+            print!(" {archive:.1} | {own:.1} | {ratio:.2} |");
+        }
         match self.instructions.get(what) {
             Some(&[archive, own]) => {
                 let ratio = archive as f64 / own as f64;
@@ -53,7 +61,7 @@ impl Meter for Clock {
     }
 }
 
-/// Prints what is called and makes both calls for callgrind to count, each once
+/// Prints what is called and makes both calls to be counted, each once
 /// before, so that nothing is done for the first time.
 pub struct Counter;
 

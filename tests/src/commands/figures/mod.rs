@@ -8,10 +8,11 @@ mod stack;
 use super::arguments::Arguments;
 use super::speed::{self, Extent};
 use super::Outcome;
-use meter::{Clock, Counter, Instructions, Meter};
+use meter::{Counter, Instructions, Meter, Table};
 use oam_tests::compare::grouped;
 use oam_tests::library::machine::STATE_OCTETS;
-use oam_tests::measure::{callgrind, clock, objects};
+use oam_tests::measure::instructions::counts;
+use oam_tests::measure::{clock, emulator, objects};
 use stack::{Deepest, Depths};
 use std::path::Path;
 
@@ -25,23 +26,30 @@ const ARCHIVE: &str = concat!(env!("OAM_ARCHIVE_DIR"), "/liboam.a");
 
 pub fn run(arguments: &Arguments) -> Outcome {
     let runs = arguments.number("--runs").unwrap_or(RUNS).max(1) as usize;
-    if let Ok(lister) = arguments.program() {
-        println!("## The lister\n");
-        speed::compare(&lister, &Extent::with_seed(SEED))?;
-        println!();
+    let runs = (!emulator::emulated()).then_some(runs);
+    match (runs, arguments.program()) {
+        (Some(_), Ok(lister)) => {
+            println!("## The lister\n");
+            speed::compare(&lister, &Extent::with_seed(SEED))?;
+            println!();
+        }
+        (Some(_), Err(_)) => {}
+        (None, _) => println!("No times, and no lister: under an emulator a time says nothing."),
     }
-    let mut clock = Clock {
+    let mut table = Table {
         runs,
         instructions: instructions()?,
     };
-    let run = clock::RUN;
-    println!("ns: the quickest of {runs} runs of about {run:?}.\n");
-    println!("## Writing and reading a frame\n");
-    clock.head();
-    frames::measure(&mut clock)?;
+    if let Some(runs) = runs {
+        let run = clock::RUN;
+        println!("ns: the quickest of {runs} runs of about {run:?}.");
+    }
+    println!("\n## Writing and reading a frame\n");
+    table.head();
+    frames::measure(&mut table)?;
     println!("\n## The machine\n");
-    clock.head();
-    machine::measure(&mut clock)?;
+    table.head();
+    machine::measure(&mut table)?;
     println!("\n## Stack\n");
     show_stack(&stack::measure(SEED)?);
     println!("\n## Size\n");
@@ -52,27 +60,30 @@ pub fn run(arguments: &Arguments) -> Outcome {
 
 const NOTHING: &str = "nothing";
 
-/// `counted`: makes the calls of the tables, for callgrind to count.
+/// `counted`: makes the calls of the tables, to be counted.
 pub fn counted(_: &Arguments) -> Outcome {
     Counter.row(NOTHING, || (), || ());
     frames::measure(&mut Counter)?;
     machine::measure(&mut Counter)
 }
 
-/// Those of each row, or none where valgrind is not installed.
+/// Those of each row, or none where nothing that counts them is installed.
 fn instructions() -> Result<Instructions, Box<dyn std::error::Error>> {
-    let Some(counts) = callgrind::counts("counted")? else {
-        println!("Instructions are not counted: valgrind is not installed.");
+    let Some(counts) = counts(&["counted"])? else {
+        println!("Instructions are not counted: valgrind (or qemu-x86_64) is not installed.");
         return Ok(Instructions::new());
     };
     let sides = counts.instructions.chunks_exact(2);
     if sides.len() != counts.lines.len() {
-        return Err("callgrind did not count every call".into());
+        return Err(format!("{} did not count every call", counts.by).into());
     }
     let sides = sides.map(|sides| [sides[0], sides[1]]);
     let instructions: Instructions = counts.lines.into_iter().zip(sides).collect();
     let [own, _] = instructions[NOTHING];
-    println!("Instructions: by callgrind; a call of nothing has {own}.");
+    println!(
+        "Instructions: by {}; a call of nothing has {own}.",
+        counts.by
+    );
     Ok(instructions)
 }
 
