@@ -35,13 +35,13 @@ pub fn read(frame: &[u8]) -> Result<Message<'_>, u8> {
     })
 }
 
-/// Answers like `read` but keeps nothing of the body; it is for speed.
+/// Answers like `read` but takes nothing of the body apart; it is for speed.
 pub fn check(frame: &[u8]) -> Result<Heading, u8> {
     let heading = read_heading(frame)?;
     let body = &frame[BODY..];
     match heading.code {
-        code::INFORMATION => walk::information(body, |_| ())?,
-        code::NOTIFICATION => walk::events(&body[2..], |_| ())?,
+        code::INFORMATION => walk::whole_information(body)?,
+        code::NOTIFICATION => walk::whole_events(&body[2..])?,
         code::REQUEST => walk::descriptors(body, |_| ())?,
         code::RESPONSE => walk::containers(body, |_| ())?,
         code::LOOPBACK => read_command(body).map(|_| ())?,

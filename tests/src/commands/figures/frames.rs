@@ -6,7 +6,8 @@ use crate::commands::Outcome;
 use oam_tests::compare::grouped;
 use oam_tests::library::{answer_of, kind, length_of, Archive, ByPaper, Library, HEADER, PART};
 use oam_tests::paper::{
-    check, code, list_start, walk, write, Content, Draft, DraftBody, LONGEST, NUMBERS, WRITTEN,
+    answer, check, code, list_start, walk, write, Content, Draft, DraftBody, LONGEST, NUMBERS,
+    WRITTEN,
 };
 use std::hint::black_box;
 
@@ -109,17 +110,46 @@ fn measure_writer(meter: &mut impl Meter, draft: &Draft) -> Outcome {
 }
 
 fn measure_reader(meter: &mut impl Meter, code: u8, frame: &[u8]) -> Outcome {
-    let mut header = [0; HEADER];
-    if Archive.read(frame, &mut header) != 0 || check(frame).is_err() {
+    let (mut header, mut own_header) = ([0; HEADER], [0; HEADER]);
+    let answers = (
+        Archive.read(frame, &mut header),
+        own_read(frame, &mut own_header),
+    );
+    if answers != (0, 0) || header != own_header {
         return Err(format!("code {code:02X} is read otherwise; see the command reading").into());
     }
     let length = grouped(frame.len());
     meter.row(
         &format!("read {}, {length} octets", name(code)),
         || Archive.read(black_box(frame), &mut header),
-        || check(black_box(frame)),
+        || own_read(black_box(frame), &mut own_header),
     );
     Ok(())
+}
+
+/// What `oam_read` does, by hand: the same tests, the same answer and the same
+/// four numbers.
+fn own_read(frame: &[u8], header: &mut [u64]) -> u64 {
+    let [source, flags, code, number, ..] = header else {
+        return answer::OUTPUT.into();
+    };
+    let heading = match check(frame) {
+        Ok(heading) => heading,
+        Err(answer) => return answer.into(),
+    };
+    let f: &[u8; 21] = frame
+        .first_chunk()
+        .expect("an accepted frame has 60 octets");
+    *source = u64::from_be_bytes([0, 0, f[6], f[7], f[8], f[9], f[10], f[11]]);
+    *flags = heading.flags.into();
+    *code = heading.code.into();
+    *number = match heading.code {
+        code::NOTIFICATION => u16::from_be_bytes([f[18], f[19]]).into(),
+        code::LOOPBACK => f[18].into(),
+        code::ORGANIZATION => u32::from_be_bytes([0, f[18], f[19], f[20]]).into(),
+        _ => 0,
+    };
+    0
 }
 
 fn measure_parts(meter: &mut impl Meter, code: u8, start: usize, frame: &[u8]) -> Outcome {
