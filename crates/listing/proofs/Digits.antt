@@ -1,10 +1,14 @@
 -- A character as a digit.
 -- Assumes nothing.
-use Prim.Native.Nat.{ℕ, _-_, _≤_, _<_}
+use Prim.Native.Nat.{ℕ, _+_, _-_, _≤_, _<_}
 use mathlib.Core.Path.{_≡_, refl, sym, _∙_}
+use mathlib.Core.List.{List}
 use mathlib.Core.Bool.{Bool, true, false, true≢false}
 use native.Mathlib.Omega.{arith}
 use borrow.Author.Tests.{le-leb, lt-leb}
+use lib.Bits.{bitOr, or-add-and, and-le-l, and-le-r}
+use lib.ListN.{length, getD, set}
+use lib.Seq.{getD-set-same, getD-set-other}
 use Rattle.text.proofs.Bounds.{by-bound}
 use Rattle.listing.specs.Lines.{isDigit, digitOf}
 use Rattle.listing.specs.Taking.{valueOf}
@@ -60,3 +64,15 @@ module _ (c : ℕ) where
       go : (b : Bool) → isDigit c ≡ b → isDigit c ≡ false
       go true e = absurd (omega (arith, rw e at h, small e))
       go false e = e
+
+-- one value more is set in a table
+pub value-set : (values : List ℕ) (n value : ℕ) → n < length values → value ≡ valueOf n
+    → ((c : ℕ) → c < n → getD values c 0 ≡ valueOf c) → (c : ℕ) → c < n + 1 → getD (set values n value) c 0 ≡ valueOf c
+value-set values n value within is before c h =
+    by-bound c n
+    (λ a. getD-set-other values n c value 0 (λ e. absurd (omega (arith, a, e))) ∙ before c a)
+    (λ a. let e : c ≡ n = omega arith in rw e (getD-set-same values n value 0 within ∙ is))
+
+-- two values are tested at once
+pub both-small : (a b : ℕ) → bitOr a b ≤ 15 → (a ≤ 15) × (b ≤ 15)
+both-small a b h = (omega (arith, or-add-and a b, and-le-r a b), omega (arith, or-add-and a b, and-le-l a b))

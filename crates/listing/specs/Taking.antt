@@ -1,9 +1,10 @@
 -- How a line is taken: a character at a time, its octets into a working frame.
-use Prim.Native.Nat.{ℕ, _+_, _*_, _%_, min}
+use Prim.Native.Nat.{ℕ, _+_, _*_, _%_, _<_, min}
+use mathlib.Core.Path.{_≡_}
 use mathlib.Core.List.{List}
 use mathlib.Core.Bool.{Bool, true, cond}
 use lib.Dec.{ltb, leb}
-use lib.ListN.{length, take, set}
+use lib.ListN.{length, getD, take, set}
 use Rattle.frame.specs.Frame.{decode}
 use Rattle.listing.specs.Rows.{entryOf}
 use Rattle.listing.specs.Lines.{isDigit, digitOf}
@@ -17,6 +18,10 @@ use Rattle.listing.specs.declared.row.Entry.the-variants.{Refused}
 -- a digit's value, and 16 for any other character
 abbrev pub valueOf : ℕ → ℕ
 valueOf c = cond (isDigit c) (digitOf c) 16
+
+-- a table of the values of all characters, each at its number
+abbrev pub Values : List ℕ → Type 0
+Values values = (length values ≡ 256) × ((c : ℕ) → c < 256 → getD values c 0 ≡ valueOf c)
 
 -- the octets that a frame has at most: "not 60 to 1,514 octets"
 abbrev pub longest : ℕ

@@ -7,6 +7,7 @@ use crate::line::LONGEST;
 use crate::line::Line;
 use crate::line::held;
 use crate::line::scan;
+use crate::line::values;
 use crate::row::Entry;
 use crate::row::ROW;
 use crate::row::frame_entry;
@@ -67,13 +68,14 @@ fn length_entry(frame: &[u8], length: usize) -> Entry
 pub fn feed(place: Place, frame: &mut [u8], piece: &[u8], out: &mut [u8]) -> Place
     ensures { λ r. ⌜ Feeds place (now (frame .entry)) (now (piece .entry)) (now (out .entry)) r (now (frame .exit)) (now (out .exit)) ⌝ }
 {
+    let values = values();
     let progress = place.progress;
     let mut number = progress.number;
     let mut line = progress.line;
     let mut taken = place.taken;
     let mut waiting = place.waiting;
     while taken < piece.len() {
-        let scanned = scan(line, frame, piece, taken);
+        let scanned = scan(&values, line, frame, piece, taken);
         line = scanned.line;
         taken = scanned.at;
         if taken == piece.len() {

@@ -1,8 +1,8 @@
 // A line of hexadecimal text as far as it has come, its octets in a working frame that is lent.
 ghost use mathlib.Core.Path.{_≡_};
-ghost use Prim.Native.Nat.{_+_, _*_, _%_, _≤_};
+ghost use Prim.Native.Nat.{_+_, _*_, _%_, _≤_, min};
 ghost use lib.ListN.{length};
-ghost use Rattle.listing.specs.Taking.{valueOf, fresh, counted, held, keep, lineWith, frameWith, hasBegun, decodedOf};
+ghost use Rattle.listing.specs.Taking.{valueOf, Values, fresh, counted, held, keep, lineWith, frameWith, hasBegun, decodedOf};
 ghost use Rattle.listing.specs.Feeding.{Scans, Stops};
 
 // The line so far: its whole octets, or these and the first digit of the next; or it has met a foreign character.
@@ -28,8 +28,7 @@ pub struct Scanned {
     pub at: usize,
 }
 
-// The value of a digit 0-9a-f, and 16 for any other character. Each turn of a scan asks twice, so it is made of
-// differences that need no jump.
+// The value of a digit 0-9a-f, and 16 for any other character.
 fn value_of(c: u8) -> u8
     ensures { λ r. ⌜ r ≡ valueOf c ⌝ }
 {
@@ -42,6 +41,27 @@ fn value_of(c: u8) -> u8
         return from_a + 10;
     }
     16
+}
+
+// The values of all characters. They are made once a piece, since each octet of a line asks for two.
+pub(crate) fn values() -> [u8; 256]
+    ensures { λ r. ⌜ Values r ⌝ }
+{
+    let mut values = [0u8; 256];
+    let mut c: usize = 0;
+    while c < 256 {
+        values[c] = value_of(c as u8);
+        c += 1;
+    }
+    values
+}
+
+// The same as `value_of`, taken from the values of all characters.
+fn value_from(values: &[u8], c: u8) -> u8
+    requires { ⌜ Values (now values) ⌝ }
+    ensures { λ r. ⌜ r ≡ valueOf c ⌝ }
+{
+    values[c as usize]
 }
 
 // The octets that a working frame holds: as many as it has, and no more than a frame.
@@ -118,24 +138,30 @@ impl Line {
     }
 }
 
+// The octets of a line that has so many and gets `pairs` more, as far as there is room: the one bound of each turn below.
+fn filled(octets: usize, pairs: usize, room: usize) -> usize
+    ensures { λ r. ⌜ r ≡ min room (octets + pairs) ⌝ }
+{
+    if octets < room {
+        if pairs < room - octets {
+            return octets + pairs;
+        }
+    }
+    room
+}
+
 // The octets that a piece has from `at` as two digits each, as far as the working frame holds them.
-fn take_octets(octets: usize, frame: &mut [u8], piece: &[u8], at: usize) -> Scanned
-    requires { ⌜ at ≤ length (now piece) ⌝ }
+fn take_octets(values: &[u8], octets: usize, frame: &mut [u8], piece: &[u8], at: usize) -> Scanned
+    requires { ⌜ Values (now values) × (at ≤ length (now piece)) ⌝ }
     ensures { λ r. ⌜ Scans (now (piece .entry)) (Line.Whole octets) (now (frame .entry)) at r (now (frame .exit)) ⌝ }
 {
-    let room = held(frame);
+    let end = filled(octets, (piece.len() - at) / 2, held(frame));
     let mut octets = octets;
     let mut at = at;
-    while octets < room {
-        if piece.len() - at < 2 {
-            break;
-        }
-        let high = value_of(piece[at]);
-        let low = value_of(piece[at + 1]);
-        if 15 < high {
-            break;
-        }
-        if 15 < low {
+    while octets < end {
+        let high = value_from(values, piece[at]);
+        let low = value_from(values, piece[at + 1]);
+        if 15 < (high | low) {
             break;
         }
         frame[octets] = high * 16 + low;
@@ -149,24 +175,24 @@ fn take_octets(octets: usize, frame: &mut [u8], piece: &[u8], at: usize) -> Scan
 }
 
 // The same for a line that may stand within an octet, or be foreign: then nothing is taken.
-fn take_whole(line: Line, frame: &mut [u8], piece: &[u8], at: usize) -> Scanned
-    requires { ⌜ at ≤ length (now piece) ⌝ }
+fn take_whole(values: &[u8], line: Line, frame: &mut [u8], piece: &[u8], at: usize) -> Scanned
+    requires { ⌜ Values (now values) × (at ≤ length (now piece)) ⌝ }
     ensures { λ r. ⌜ Scans (now (piece .entry)) line (now (frame .entry)) at r (now (frame .exit)) ⌝ }
 {
     match line {
-        Line::Whole(octets) => take_octets(octets, frame, piece, at),
+        Line::Whole(octets) => take_octets(values, octets, frame, piece, at),
         Line::Half(_, _) => Scanned { line, at },
         Line::Foreign => Scanned { line, at },
     }
 }
 
 // The characters that a piece has from `at`, up to a newline or the piece's end.
-pub(crate) fn scan(line: Line, frame: &mut [u8], piece: &[u8], at: usize) -> Scanned
-    requires { ⌜ at ≤ length (now piece) ⌝ }
+pub(crate) fn scan(values: &[u8], line: Line, frame: &mut [u8], piece: &[u8], at: usize) -> Scanned
+    requires { ⌜ Values (now values) × (at ≤ length (now piece)) ⌝ }
     ensures { λ r. ⌜ Scans (now (piece .entry)) line (now (frame .entry)) at r (now (frame .exit)) ⌝ }
     ensures { λ r. ⌜ Stops (now (piece .entry)) (r .at) ⌝ }
 {
-    let whole = take_whole(line, frame, piece, at);
+    let whole = take_whole(values, line, frame, piece, at);
     let mut line = whole.line;
     let mut at = whole.at;
     while at < piece.len() {

@@ -13,13 +13,19 @@ use Rattle.listing.proofs.feeding.feed.Statement.{statement}
 use Rattle.listing.proofs.feeding.feed.Tie as tie
 
 abbrev Inv-loop : tie.InvT-loop
-Inv-loop frame₀ piece out₀ number₀ line₀ taken₀ waiting₀ frame out number line taken waiting = Stands frame₀ piece out₀ number₀ line₀ taken₀ waiting₀ frame out number line taken waiting
+Inv-loop frame₀ piece out₀ values number₀ line₀ taken₀ waiting₀ frame out number line taken waiting = Stands frame₀ piece out₀ number₀ line₀ taken₀ waiting₀ frame out number line taken waiting
 
 abbrev μ-loop : tie.MeasureT-loop
-μ-loop frame₀ piece out₀ number₀ line₀ taken₀ waiting₀ frame out number line taken waiting = length piece - taken
+μ-loop frame₀ piece out₀ values number₀ line₀ taken₀ waiting₀ frame out number line taken waiting = length piece - taken
+
+values-requires : tie.Need-values-requires Inv-loop μ-loop
+values-requires c κs = search needs
 
 loop-holds : tie.Need-loop-holds Inv-loop μ-loop
 loop-holds c = starts _ _ _ _ _ _ _
+
+slice-aggregate-scan : tie.Need-slice-aggregate-scan Inv-loop μ-loop
+slice-aggregate-scan c = search needs
 
 scan-requires : tie.Need-scan-requires Inv-loop μ-loop
 scan-requires c κs = search needs
@@ -54,10 +60,10 @@ loop-less c = search needs
 loop-again : tie.Need-loop-again Inv-loop μ-loop
 loop-again c =
     let scan = c .before .before .before .before .before .before .before .before .before .before .before .before .before .before .before .scan in
-    let s = scans _ _ _ _ _ _ _ (c .before .before .before .before .before .before .before .before .before .before .before .before .before .before .before .before .before .before .loop .inv) (scan .ensures .0) (scan .kept .1 .0) in
-    let before : scan .result .at < length (now (c .before .before .before .before .before .before .before .before .before .before .before .before .before .before .before .before .before .before .before .before .before .before .before .args .piece)) = omega arith in
-    let is : decodedEntry (scan .last .1 .0) (decodedOf (scan .result .line)) ≡ Refused 14 =
-    ap (decodedEntry (scan .last .1 .0)) (sym (c .before .before .before .before .before .before .before .before .decoded .ensures) ∙ c .before .before .before .before .enum-told .given .1) in
+    let s = scans _ _ _ _ _ _ _ (c .before .before .before .before .before .before .before .before .before .before .before .before .before .before .before .before .before .before .before .loop .inv) (scan .ensures .0) (scan .kept .1 .1 .0) in
+    let before : scan .result .at < length (now (c .before .before .before .before .before .before .before .before .before .before .before .before .before .before .before .before .before .before .before .before .before .before .before .before .before .args .piece)) = omega arith in
+    let is : decodedEntry (scan .last .1 .1 .0) (decodedOf (scan .result .line)) ≡ Refused 14 =
+    ap (decodedEntry (scan .last .1 .1 .0)) (sym (c .before .before .before .before .before .before .before .before .decoded .ensures) ∙ c .before .before .before .before .enum-told .given .1) in
     rw (c .before .before .before .before .before .before .before .wrapping-add-u64 .ensures, c .before .before .before .before .before .before .fresh .ensures)
     (ends-line _ _ _ _ _ _ _ s before (scan .ensures .1 before) (omega (arith, c .before .before .before .before .before .before .before .before .before .if2 .left, c .before .before .before .before .before .before .before .before .before .before .room-from .ensures)) is (c .before .before .put-row .ensures) (omega arith))
 
@@ -73,10 +79,10 @@ loop-less-2 c = search needs
 loop-again-2 : tie.Need-loop-again-2 Inv-loop μ-loop
 loop-again-2 c =
     let scan = c .before .before .before .before .before .before .before .before .before .before .before .before .before .before .before .before .before .before .scan in
-    let s = scans _ _ _ _ _ _ _ (c .before .before .before .before .before .before .before .before .before .before .before .before .before .before .before .before .before .before .before .before .before .loop .inv) (scan .ensures .0) (scan .kept .1 .0) in
-    let before : scan .result .at < length (now (c .before .before .before .before .before .before .before .before .before .before .before .before .before .before .before .before .before .before .before .before .before .before .before .before .before .before .args .piece)) = omega arith in
-    let is : decodedEntry (scan .last .1 .0) (decodedOf (scan .result .line)) ≡ c .before .before .before .length-entry .result =
-    ap (decodedEntry (scan .last .1 .0)) (sym (c .before .before .before .before .before .before .before .before .before .before .before .decoded .ensures) ∙ c .before .before .before .before .before .before .before .decoded2 .given .1) ∙ sym (c .before .before .before .length-entry .ensures) in
+    let s = scans _ _ _ _ _ _ _ (c .before .before .before .before .before .before .before .before .before .before .before .before .before .before .before .before .before .before .before .before .before .before .loop .inv) (scan .ensures .0) (scan .kept .1 .1 .0) in
+    let before : scan .result .at < length (now (c .before .before .before .before .before .before .before .before .before .before .before .before .before .before .before .before .before .before .before .before .before .before .before .before .before .before .before .before .args .piece)) = omega arith in
+    let is : decodedEntry (scan .last .1 .1 .0) (decodedOf (scan .result .line)) ≡ c .before .before .before .length-entry .result =
+    ap (decodedEntry (scan .last .1 .1 .0)) (sym (c .before .before .before .before .before .before .before .before .before .before .before .decoded .ensures) ∙ c .before .before .before .before .before .before .before .decoded2 .given .1) ∙ sym (c .before .before .before .length-entry .ensures) in
     rw (c .before .before .before .before .before .before .before .before .before .before .wrapping-add-u64 .ensures, c .before .before .before .before .before .before .before .before .before .fresh .ensures)
     (ends-line _ _ _ _ _ _ _ s before (scan .ensures .1 before) (omega (arith, c .before .before .before .before .before .before .before .before .before .before .before .before .if2 .left, c .before .before .before .before .before .before .before .before .before .before .before .before .before .room-from .ensures)) is (c .before .before .put-row2 .ensures) (omega arith))
 
@@ -99,8 +105,8 @@ same-length-4 c = search needs
 
 returns-2 : tie.Need-returns-2 Inv-loop μ-loop
 returns-2 c =
-    let s = scans _ _ _ _ _ _ _ (c .before .before .before .before .before .before .loop .inv) (c .before .before .before .scan .ensures .0) (c .before .before .before .scan .kept .1 .0) in
-    let whole : length (now (c .before .before .before .before .before .before .before .before .before .before .before .args .piece)) ≤ c .before .before .before .scan .result .at = omega arith in
+    let s = scans _ _ _ _ _ _ _ (c .before .before .before .before .before .before .before .loop .inv) (c .before .before .before .scan .ensures .0) (c .before .before .before .scan .kept .1 .1 .0) in
+    let whole : length (now (c .before .before .before .before .before .before .before .before .before .before .before .before .before .args .piece)) ≤ c .before .before .before .scan .result .at = omega arith in
     feeds _ _ _ _ _ _ _ s (ended _ _ _ _ whole)
 
 same-length-5 : tie.Need-same-length-5 Inv-loop μ-loop
@@ -112,8 +118,8 @@ same-length-6 c = search needs
 returns-3 : tie.Need-returns-3 Inv-loop μ-loop
 returns-3 c =
     let scan = c .before .before .before .before .before .before .scan in
-    let s = scans _ _ _ _ _ _ _ (c .before .before .before .before .before .before .before .before .before .loop .inv) (scan .ensures .0) (scan .kept .1 .0) in
-    let before : scan .result .at < length (now (c .before .before .before .before .before .before .before .before .before .before .before .before .before .before .args .piece)) = omega arith in
+    let s = scans _ _ _ _ _ _ _ (c .before .before .before .before .before .before .before .before .before .before .loop .inv) (scan .ensures .0) (scan .kept .1 .1 .0) in
+    let before : scan .result .at < length (now (c .before .before .before .before .before .before .before .before .before .before .before .before .before .before .before .before .args .piece)) = omega arith in
     feeds _ _ _ _ _ _ _ s (stopped _ _ _ _ before (scan .ensures .1 before) (omega (arith, c .if2 .taken, c .before .room-from .ensures, s .count, s .outputs)))
 
 pub feed-spec : {M : Type 1} → statement M
@@ -122,7 +128,9 @@ feed-spec =
     (tie.spec
     Inv-loop
     μ-loop
+    values-requires
     loop-holds
+    slice-aggregate-scan
     scan-requires
     room-from-requires
     decoded-requires

@@ -12,11 +12,11 @@ use Rattle.listing.proofs.line.scan.Statement.{statement}
 use Rattle.listing.proofs.line.scan.Tie as tie
 
 abbrev Inv-loop : tie.InvT-loop
-Inv-loop frame₀ piece at line₀ at₀ frame line at' =
+Inv-loop values frame₀ piece at line₀ at₀ frame line at' =
     (length frame ≡ length frame₀) × Scans piece line₀ frame₀ at₀ (record { line = line; at = at' }) frame
 
 abbrev μ-loop : tie.MeasureT-loop
-μ-loop frame₀ piece at line₀ at₀ frame line at' = length piece - at'
+μ-loop values frame₀ piece at line₀ at₀ frame line at' = length piece - at'
 
 take-whole-requires : tie.Need-take-whole-requires Inv-loop μ-loop
 take-whole-requires c κs = search needs
@@ -38,7 +38,7 @@ loop-less c = search needs
 
 loop-again : tie.Need-loop-again Inv-loop μ-loop
 loop-again c =
-    let a = c .before .before .before .before .before .before .before .before .before .before .before .before .before .before .args in
+    let a = c .before .before .before .before .before .before .before .before .before .before .before .before .before .before .before .args in
     let l = c .before .before .before .before .before .before .before .loop in
     let w = c .before .before .with in (
       w .kept .1 .0 ∙ l .inv .0,
@@ -52,13 +52,13 @@ loop-again c =
     )
 
 same-length : tie.Need-same-length Inv-loop μ-loop
-same-length c = c .before .loop .inv .0 ∙ c .before .before .before .before .take-whole .kept .1 .0
+same-length c = c .before .loop .inv .0 ∙ c .before .before .before .before .take-whole .kept .1 .1 .0
 
 returns : tie.Need-returns Inv-loop μ-loop
 returns c = (scans-then (c .before .before .before .before .take-whole .ensures) (c .before .loop .inv .1), λ h. absurd (omega arith))
 
 same-length-2 : tie.Need-same-length-2 Inv-loop μ-loop
-same-length-2 c = c .before .before .before .loop .inv .0 ∙ c .before .before .before .before .before .before .take-whole .kept .1 .0
+same-length-2 c = c .before .before .before .loop .inv .0 ∙ c .before .before .before .before .before .before .take-whole .kept .1 .1 .0
 
 returns-2 : tie.Need-returns-2 Inv-loop μ-loop
 returns-2 c = (scans-then (c .before .before .before .before .before .before .take-whole .ensures) (c .before .before .before .loop .inv .1), λ h. c .if1 .taken)
