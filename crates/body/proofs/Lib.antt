@@ -1,3 +1,4 @@
 pub mod Gathering
 pub mod Wholes
+pub mod Strides
 pub mod Places

@@ -24,6 +24,10 @@ descriptorStep s at =
 abbrev pub widthOf : ℕ → ℕ
 widthOf octet = cond (eqb octet 0) 128 octet
 
+-- the octets of the value after a width octet: an indication has none
+abbrev pub valueOctets : ℕ → ℕ
+valueOctets octet = cond (leb 128 octet) 0 (widthOf octet)
+
 -- "with bit 7 set it is an indication without value"
 abbrev pub containerFrom : List ℕ → DescriptorStep → ContainerStep
 containerFrom s DescriptorEnd = End

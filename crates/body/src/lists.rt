@@ -1,11 +1,9 @@
 // Whether a body that is a list of parts is whole: the walk over it ends, and does not break off.
 ghost use mathlib.Core.Path.{_≡_};
-ghost use Rattle.body.specs.Lists.{ofMark, ofDescriptor, ofContainer, placeAt, wholeList};
-use crate::ContainerStep;
-use crate::DescriptorStep;
+ghost use Rattle.body.specs.Lists.{ofMark, wholeList};
+ghost use Rattle.body.specs.declared.ListKind.the-variants.{Events, Descriptors, Containers};
 use crate::ListKind;
-use crate::variables::container_step;
-use crate::variables::descriptor_step;
+use crate::variables::value_octets;
 use tlvs::Kind;
 use tlvs::Mark;
 
@@ -28,44 +26,13 @@ fn of_mark(mark: Mark) -> Place
     }
 }
 
-fn of_descriptor(step: DescriptorStep) -> Place
-    ensures { λ r. ⌜ r ≡ ofDescriptor step ⌝ }
-{
-    match step {
-        DescriptorStep::End => Place::End,
-        DescriptorStep::Broken => Place::Broken,
-        DescriptorStep::Has(_, next) => Place::Has(next),
-    }
-}
-
-fn of_container(step: ContainerStep) -> Place
-    ensures { λ r. ⌜ r ≡ ofContainer step ⌝ }
-{
-    match step {
-        ContainerStep::End => Place::End,
-        ContainerStep::Broken => Place::Broken,
-        ContainerStep::Value(_, _, next) => Place::Has(next),
-        ContainerStep::Indication(_, _, next) => Place::Has(next),
-    }
-}
-
-// What stands at an octet of a list. Of an event only the type and the length are looked at.
-fn place_at(list: ListKind, body: &[u8], at: usize) -> Place
-    ensures { λ r. ⌜ r ≡ placeAt list (now (body .entry)) at ⌝ }
-{
-    match list {
-        ListKind::Events => of_mark(tlvs::mark_at(Kind::Events, body, at)),
-        ListKind::Descriptors => of_descriptor(descriptor_step(body, at)),
-        ListKind::Containers => of_container(container_step(body, at)),
-    }
-}
-
-pub fn is_whole(list: ListKind, body: &[u8]) -> bool
-    ensures { λ r. ⌜ r ≡ wholeList list (now (body .entry)) ⌝ }
+// Of an event only the type and the length are looked at.
+fn whole_events(body: &[u8]) -> bool
+    ensures { λ r. ⌜ r ≡ wholeList Events (now (body .entry)) ⌝ }
 {
     let mut at: usize = 0;
     loop {
-        match place_at(list, body, at) {
+        match of_mark(tlvs::mark_at(Kind::Events, body, at)) {
             Place::End => {
                 return true;
             }
@@ -79,5 +46,47 @@ pub fn is_whole(list: ListKind, body: &[u8]) -> bool
                 at = next;
             }
         }
+    }
+}
+
+// Every descriptor has three octets: only the last can be cut off, and then the walk goes past the body's end.
+fn whole_descriptors(body: &[u8]) -> bool
+    ensures { λ r. ⌜ r ≡ wholeList Descriptors (now (body .entry)) ⌝ }
+{
+    let mut at: usize = 0;
+    while at < body.len() {
+        if body[at] == 0 {
+            return true;
+        }
+        at += 3;
+    }
+    at <= body.len()
+}
+
+// The same for containers, whose fourth octet says how many follow.
+fn whole_containers(body: &[u8]) -> bool
+    ensures { λ r. ⌜ r ≡ wholeList Containers (now (body .entry)) ⌝ }
+{
+    let mut at: usize = 0;
+    while at < body.len() {
+        if body[at] == 0 {
+            return true;
+        }
+        let from = at + 4;
+        if body.len() < from {
+            return false;
+        }
+        at = from + value_octets(body[at + 3]);
+    }
+    at <= body.len()
+}
+
+pub fn is_whole(list: ListKind, body: &[u8]) -> bool
+    ensures { λ r. ⌜ r ≡ wholeList list (now (body .entry)) ⌝ }
+{
+    match list {
+        ListKind::Events => whole_events(body),
+        ListKind::Descriptors => whole_descriptors(body),
+        ListKind::Containers => whole_containers(body),
     }
 }

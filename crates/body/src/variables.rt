@@ -1,6 +1,6 @@
 // The descriptors of a Variable Request and the containers of a Variable Response.
 ghost use mathlib.Core.Path.{_≡_};
-ghost use Rattle.body.specs.Variables.{descriptorStep, widthOf, containerStep, valueAt};
+ghost use Rattle.body.specs.Variables.{descriptorStep, widthOf, valueOctets, containerStep, valueAt};
 use crate::ContainerStep;
 use crate::DescriptorStep;
 
@@ -30,28 +30,36 @@ fn width_of(octet: u8) -> usize
     if octet == 0 { 128 } else { octet as usize }
 }
 
-// What stands at an octet of a list of containers.
+// The octets that follow a width octet.
+pub(crate) fn value_octets(octet: u8) -> usize
+    ensures { λ r. ⌜ r ≡ valueOctets octet ⌝ }
+{
+    if 128 <= octet { 0 } else { width_of(octet) }
+}
+
+// What stands at an octet of a list of containers. A descriptor and a width octet are four octets.
 pub fn container_step(body: &[u8], at: usize) -> ContainerStep
     ensures { λ r. ⌜ r ≡ containerStep (now (body .entry)) at ⌝ }
 {
-    match descriptor_step(body, at) {
-        DescriptorStep::End => ContainerStep::End,
-        DescriptorStep::Broken => ContainerStep::Broken,
-        DescriptorStep::Has(descriptor, from) => {
-            if body.len() <= from {
-                return ContainerStep::Broken;
-            }
-            let octet = body[from];
-            if 128 <= octet {
-                return ContainerStep::Indication(descriptor, octet, from + 1);
-            }
-            let width = width_of(octet);
-            if body.len() - (from + 1) < width {
-                return ContainerStep::Broken;
-            }
-            ContainerStep::Value(descriptor, width, from + 1 + width)
-        }
+    if body.len() <= at {
+        return ContainerStep::End;
     }
+    if body[at] == 0 {
+        return ContainerStep::End;
+    }
+    if body.len() - at < 4 {
+        return ContainerStep::Broken;
+    }
+    let descriptor = tlvs::join_three(body[at], body[at + 1], body[at + 2]);
+    let octet = body[at + 3];
+    if 128 <= octet {
+        return ContainerStep::Indication(descriptor, octet, at + 4);
+    }
+    let width = width_of(octet);
+    if body.len() - (at + 4) < width {
+        return ContainerStep::Broken;
+    }
+    ContainerStep::Value(descriptor, width, at + 4 + width)
 }
 
 // The value of the container at an octet; empty where no value stands.

@@ -1,77 +1,44 @@
-use Prim.Native.Nat.{_-_}
-use mathlib.Core.Path.{sym, subst}
 use borrow.Author.Needs.{needs}
-use native.Mathlib.Omega.{arith}
-use lib.ListN.{length}
-use denote.Ref.{now}
-use Rattle.body.proofs.Wholes.{Going, Gone, one-turn, start}
 use Rattle.body.proofs.lists.is_whole.Statement.{statement}
 use Rattle.body.proofs.lists.is_whole.Tie as tie
 
-abbrev Inv-loop : tie.InvT-loop
-Inv-loop list body at₀ at = Going list body at
-
-abbrev μ-loop : tie.MeasureT-loop
-μ-loop list body at₀ at = length body - at
-
--- what the turn comes to
-come : (c : tie.After-place-at Inv-loop μ-loop) → Gone (c .before .before .before .args .list) (now (c .before .before .before .args .body)) (c .before .loop .at) (c .place-at .result)
-come c =
-    let a = c .before .before .before .args in
-    let l = c .before .loop in
-    subst (Gone (a .list) (now (a .body)) (l .at)) (sym (c .place-at .ensures)) (one-turn (a .list) (now (a .body)) (l .at) (l .inv))
-
-loop-holds : tie.Need-loop-holds Inv-loop μ-loop
-loop-holds c = start (c .before .args .list) (now (c .before .args .body))
-
-place-at-requires : tie.Need-place-at-requires Inv-loop μ-loop
-place-at-requires c κs = search needs
-
-enum-told : tie.Need-enum-told Inv-loop μ-loop
+enum-told : tie.Need-enum-told
 enum-told c = search needs
 
-returns : tie.Need-returns Inv-loop μ-loop
-returns c = subst (Gone _ _ (c .before .before .before .loop .at)) (c .enum-told .given .1) (come (c .before .before)) .0
+whole-events-requires : tie.Need-whole-events-requires
+whole-events-requires c κs = search needs
 
-enum-told-2 : tie.Need-enum-told-2 Inv-loop μ-loop
+enum-told-2 : tie.Need-enum-told-2
 enum-told-2 c = search needs
 
-returns-2 : tie.Need-returns-2 Inv-loop μ-loop
-returns-2 c = subst (Gone _ _ (c .before .before .before .loop .at)) (c .enum-told2 .given .1) (come (c .before .before)) .0
+whole-descriptors-requires : tie.Need-whole-descriptors-requires
+whole-descriptors-requires c κs = search needs
 
-enum-known-next : tie.Need-enum-known-next Inv-loop μ-loop
-enum-known-next c = search needs
+enum-told-3 : tie.Need-enum-told-3
+enum-told-3 c = search needs
 
-loop-less : tie.Need-loop-less Inv-loop μ-loop
-loop-less c = omega (arith, subst (Gone (c .before .before .before .before .before .before .args .list) (now (c .before .before .before .before .before .before .args .body)) (c .before .before .before .before .loop .at)) (c .before .next .given .1) (come (c .before .before .before)) .1)
+whole-containers-requires : tie.Need-whole-containers-requires
+whole-containers-requires c κs = search needs
 
-loop-again : tie.Need-loop-again Inv-loop μ-loop
-loop-again c = subst (Gone _ _ (c .before .before .before .before .loop .at)) (c .before .next .given .1) (come (c .before .before .before)) .0
+returns : tie.Need-returns
+returns c = rw (c .before .enum-told .given .1) (c .whole-events .ensures)
 
-enum-known-next-2 : tie.Need-enum-known-next-2 Inv-loop μ-loop
-enum-known-next-2 c = search needs
+returns-2 : tie.Need-returns-2
+returns-2 c = rw (c .before .enum-told2 .given .1) (c .whole-descriptors .ensures)
 
-loop-less-2 : tie.Need-loop-less-2 Inv-loop μ-loop
-loop-less-2 c = omega (arith, subst (Gone (c .before .before .before .before .before .before .args .list) (now (c .before .before .before .before .before .before .args .body)) (c .before .before .before .before .loop .at)) (c .before .next2 .given .1) (come (c .before .before .before)) .1)
-
-loop-again-2 : tie.Need-loop-again-2 Inv-loop μ-loop
-loop-again-2 c = subst (Gone _ _ (c .before .before .before .before .loop .at)) (c .before .next2 .given .1) (come (c .before .before .before)) .0
+returns-3 : tie.Need-returns-3
+returns-3 c = rw (c .before .enum-told3 .given .1) (c .whole-containers .ensures)
 
 pub is-whole-spec : {M : Type 1} → statement M
 is-whole-spec =
     tie.close
     (tie.spec
-    Inv-loop
-    μ-loop
-    loop-holds
-    place-at-requires
     enum-told
-    returns
+    whole-events-requires
     enum-told-2
+    whole-descriptors-requires
+    enum-told-3
+    whole-containers-requires
+    returns
     returns-2
-    enum-known-next
-    loop-less
-    loop-again
-    enum-known-next-2
-    loop-less-2
-    loop-again-2)
+    returns-3)
