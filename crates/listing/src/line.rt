@@ -1,6 +1,6 @@
 // A line of hexadecimal text as far as it has come, its octets in a working frame that is lent.
 ghost use mathlib.Core.Path.{_≡_};
-ghost use Prim.Native.Nat.{_+_, _*_, _%_, _≤_, min};
+ghost use Prim.Native.Nat.{_+_, _-_, _*_, _%_, _≤_, min};
 ghost use lib.ListN.{length};
 ghost use Rattle.listing.specs.Taking.{valueOf, Values, fresh, counted, held, keep, lineWith, frameWith, hasBegun, decodedOf};
 ghost use Rattle.listing.specs.Feeding.{Scans, Stops};
@@ -138,16 +138,17 @@ impl Line {
     }
 }
 
-// The octets of a line that has so many and gets `pairs` more, as far as there is room: the one bound of each turn below.
-fn filled(octets: usize, pairs: usize, room: usize) -> usize
-    ensures { λ r. ⌜ r ≡ min room (octets + pairs) ⌝ }
+// How many more octets fit after so many, where `pairs` come: the one bound of each turn below.
+fn fitting(octets: usize, pairs: usize, room: usize) -> usize
+    ensures { λ r. ⌜ r ≡ min (room - octets) pairs ⌝ }
 {
-    if octets < room {
-        if pairs < room - octets {
-            return octets + pairs;
-        }
+    if room < octets {
+        return 0;
     }
-    room
+    if pairs < room - octets {
+        return pairs;
+    }
+    room - octets
 }
 
 // The octets that a piece has from `at` as two digits each, as far as the working frame holds them.
@@ -155,22 +156,20 @@ fn take_octets(values: &[u8], octets: usize, frame: &mut [u8], piece: &[u8], at:
     requires { ⌜ Values (now values) × (at ≤ length (now piece)) ⌝ }
     ensures { λ r. ⌜ Scans (now (piece .entry)) (Line.Whole octets) (now (frame .entry)) at r (now (frame .exit)) ⌝ }
 {
-    let end = filled(octets, (piece.len() - at) / 2, held(frame));
-    let mut octets = octets;
-    let mut at = at;
-    while octets < end {
-        let high = value_from(values, piece[at]);
-        let low = value_from(values, piece[at + 1]);
+    let count = fitting(octets, (piece.len() - at) / 2, held(frame));
+    let mut i: usize = 0;
+    while i < count {
+        let high = value_from(values, piece[at + 2 * i]);
+        let low = value_from(values, piece[at + 2 * i + 1]);
         if 15 < (high | low) {
             break;
         }
-        frame[octets] = high * 16 + low;
-        octets += 1;
-        at += 2;
+        frame[octets + i] = high * 16 + low;
+        i += 1;
     }
     Scanned {
-        line: Line::Whole(octets),
-        at,
+        line: Line::Whole(octets + i),
+        at: at + 2 * i,
     }
 }
 
