@@ -76,16 +76,3 @@ next-field l at i ws vs h k =
 pub next-fit : (ws vs : List ℕ) (i : ℕ) → i < length ws → i < length vs
     → fit (drop i ws) (drop i vs) ≡ (ltb (getD vs i 0) (256 ^ getD ws i 0) && fit (drop (i + 1) ws) (drop (i + 1) vs))
 next-fit ws vs i h k = rw (add-one i, drop-cons ws i 0 h, drop-cons vs i 0 k)
-
--- the table of limits holds the powers of 256
-pub limit : (width : ℕ) → width < 8
-    → getD (1 ∷ 0x100 ∷ 0x10000 ∷ 0x1000000 ∷ 0x100000000 ∷ 0x10000000000 ∷ 0x1000000000000 ∷ 0x100000000000000 ∷ []) width 0 ≡ 256 ^ width
-limit zero h = refl
-limit (suc zero) h = refl
-limit (suc (suc zero)) h = refl
-limit (suc (suc (suc zero))) h = refl
-limit (suc (suc (suc (suc zero)))) h = refl
-limit (suc (suc (suc (suc (suc zero))))) h = refl
-limit (suc (suc (suc (suc (suc (suc zero)))))) h = refl
-limit (suc (suc (suc (suc (suc (suc (suc zero))))))) h = refl
-limit (suc (suc (suc (suc (suc (suc (suc (suc width)))))))) h = absurd (omega arith)

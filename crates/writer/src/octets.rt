@@ -1,6 +1,6 @@
 // Octets stored in a lent output, and whether numbers fit them.
 ghost use mathlib.Core.Path.{_≡_};
-ghost use Prim.Native.Nat.{_+_, _^_, _≤_, min};
+ghost use Prim.Native.Nat.{_+_, _^_, _<_, _≤_, min};
 ghost use lib.Dec.{ltb};
 ghost use lib.ListN.{length, replicate};
 ghost use lib.Seq.{sets};
@@ -69,24 +69,29 @@ pub(crate) fn put_fields(out: &mut [u8], at: usize, widths: &[usize], values: &[
     }
 }
 
-// The first number that does not fit in 0 to 7 octets.
-const LIMITS: [u64; 8] = [
-    1,
-    0x100,
-    0x10000,
-    0x1000000,
-    0x100000000,
-    0x10000000000,
-    0x1000000000000,
-    0x100000000000000,
-];
+// The first number that does not fit in width octets.
+fn limit(width: usize) -> u64
+    requires { ⌜ width < 8 ⌝ }
+    ensures { λ r. ⌜ r ≡ 256 ^ width ⌝ }
+{
+    match width {
+        0 => 1,
+        1 => 0x100,
+        2 => 0x10000,
+        3 => 0x1000000,
+        4 => 0x100000000,
+        5 => 0x10000000000,
+        6 => 0x1000000000000,
+        _ => 0x100000000000000,
+    }
+}
 
 // Whether a number fits in width octets.
 pub fn fits(value: u64, width: usize) -> bool
     ensures { λ r. ⌜ r ≡ ltb value (256 ^ width) ⌝ }
 {
     if width < 8 {
-        return value < LIMITS[width];
+        return value < limit(width);
     }
     true
 }

@@ -4,22 +4,18 @@ use native.Mathlib.Omega.{arith}
 use borrow.Author.Tests.{lt-ltb}
 use lib.Dec.{ltb}
 use Rattle.tlvs.proofs.Numbers.{pow-upto}
-use Rattle.writer.proofs.Stores.{limit}
 use borrow.Author.Needs.{needs}
 use Rattle.writer.proofs.octets.fits.Statement.{statement}
 use Rattle.writer.proofs.octets.fits.Tie as tie
 
-mul-result : tie.Need-mul-result
-mul-result c = search needs
-
-array-read-result : tie.Need-array-read-result
-array-read-result c = search needs
+limit-requires : tie.Need-limit-requires
+limit-requires c κs = search needs
 
 returns : tie.Need-returns
-returns c = ap (ltb (c .before .args .value)) (limit (c .before .args .width) (c .if1 .taken))
+returns c = ap (ltb (c .before .before .args .value)) (c .limit .ensures)
 
 returns-2 : tie.Need-returns-2
 returns-2 c = sym (lt-ltb (c .before .args .value) (256 ^ c .before .args .width) (omega (arith, pow-upto 8 (c .before .args .width) (c .if1 .left), c .before .fits)))
 
 pub fits-spec : {M : Type 1} → statement M
-fits-spec = tie.close (tie.spec mul-result array-read-result returns returns-2)
+fits-spec = tie.close (tie.spec limit-requires returns returns-2)
