@@ -88,10 +88,15 @@ static void finish(struct end *e, uint64_t outcome)
 
 static void print_events(struct end *e, const struct frame *f)
 {
-    uint64_t part[OAM_PART_NUMBERS] = {OAM_EVENTS_AT};
-    while (oam_part(f->octets, f->length, (size_t)part[0], part, OAM_PART_NUMBERS) == OAM_PART_EVENT) {
+    uint64_t header[OAM_HEADER_NUMBERS], rows[OAM_MOST_EVENTS * OAM_ROW_NUMBERS];
+    uint64_t outcome = oam_read_all(f->octets, f->length, 0, header, OAM_HEADER_NUMBERS, rows,
+                                    OAM_MOST_EVENTS * OAM_ROW_NUMBERS);
+    must(oam_answer(outcome) == OAM_ACCEPTED, "a frame that shows events can be read");
+    must(oam_count(outcome) <= OAM_MOST_EVENTS, "a written frame has no more events");
+    for (size_t row = 0; row < oam_count(outcome); row += 1) {
+        const uint64_t *event = &rows[row * OAM_ROW_NUMBERS + OAM_ROW_PART];
         printf("  %-6s hears of an event of type %" PRIu64 " with %" PRIu64 " errors\n", e->name,
-               part[1 + OAM_EVENT_TYPE], part[1 + OAM_EVENT_ERRORS]);
+               event[OAM_EVENT_TYPE], event[OAM_EVENT_ERRORS]);
         e->events_heard += 1;
     }
 }

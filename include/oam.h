@@ -57,16 +57,14 @@ enum {
 #define OAM_LONGEST_FRAME 1514 /* an output of this many octets is never too short for a frame */
 #define OAM_LONGEST_LINE 111   /* an output of this many octets is never too short for a log line */
 
-/* Where things stand in a frame. */
-#define OAM_PARTS_AT 18        /* the first part of a body */
-#define OAM_EVENTS_AT 20       /* the first part of an Event Notification's body */
-#define OAM_ORGANIZATION_AT 21 /* an organization's data, up to the frame's end */
+/* Where an organization's data stand in a frame, up to the frame's end. */
+#define OAM_ORGANIZATION_AT 21
 
 /* Counts of numbers in a slice. */
 #define OAM_INFORMATION_NUMBERS 7 /* an Information TLV */
 #define OAM_EVENT_NUMBERS 7       /* an event */
-#define OAM_HEADER_NUMBERS 4      /* what oam_read and oam_receive store */
-#define OAM_PART_NUMBERS 10       /* what oam_part asks for */
+#define OAM_HEADER_NUMBERS 4      /* what oam_read, oam_read_all and oam_receive store of a header */
+#define OAM_ROW_NUMBERS 9         /* a row, which oam_read_all stores of each part */
 #define OAM_LINE_NUMBERS 9        /* what oam_log_read stores */
 #define OAM_SHOWN_NUMBERS 28      /* what oam_show stores */
 
@@ -181,18 +179,21 @@ enum {
 /* The places of a log line's nine numbers. The last seven are the event's, in its order. */
 enum { OAM_LINE_NUMBER = 0, OAM_LINE_POSITION = 1, OAM_LINE_EVENT = 2 };
 
-/* The kinds of part that oam_part answers. What it stores after the next octet stands behind each. */
+/* The places of a row's numbers. The last ones are the part's, and zeros behind them. */
 enum {
-    OAM_PART_NONE = 0,       /* frame refused or of a code without parts, or slice too short; nothing stored */
-    OAM_PART_END = 1,        /* no further part; nothing stored */
-    OAM_PART_BROKEN = 2,     /* what stands at this octet is broken; nothing stored */
-    OAM_PART_SKIPPED = 3,    /* a TLV of unknown type: nothing more */
-    OAM_PART_LOCAL = 4,      /* an Information TLV's seven numbers */
-    OAM_PART_REMOTE = 5,     /* an Information TLV's seven numbers */
-    OAM_PART_EVENT = 6,      /* an event's seven numbers */
-    OAM_PART_DESCRIPTOR = 7, /* the descriptor */
-    OAM_PART_VALUE = 8,      /* a container: descriptor, the value's first octet in the frame, its width */
-    OAM_PART_INDICATION = 9  /* a container without value: descriptor, the width octet */
+    OAM_ROW_KIND = 0,
+    OAM_ROW_NEXT = 1, /* the octet of the frame after the part */
+    OAM_ROW_PART = 2
+};
+
+/* The kinds of part, none of them an answer's number. The part's numbers stand behind each. */
+enum {
+    OAM_PART_LOCAL = 32,      /* an Information TLV's seven numbers */
+    OAM_PART_REMOTE = 33,     /* an Information TLV's seven numbers */
+    OAM_PART_EVENT = 34,      /* an event's seven numbers */
+    OAM_PART_DESCRIPTOR = 35, /* the descriptor */
+    OAM_PART_VALUE = 36,      /* a container: descriptor, the value's first octet in the frame, its width */
+    OAM_PART_INDICATION = 37  /* a container without value: descriptor, the width octet */
 };
 
 /* The places of the numbers that oam_show stores. What is held or set is 1, else 0. */
@@ -224,7 +225,7 @@ enum {
 /*
  * An outcome is what each function that writes returns: the answer in bits 0 to 7, the length written
  * in bits 8 to 39. A call of the machine adds the State octet of the end after the call in bits 40 to
- * 47, and what is shown in bits 48 and 49.
+ * 47, and what is shown in bits 48 and 49. The outcome of oam_read_all has a count in the length's place.
  */
 static inline uint8_t oam_answer(uint64_t outcome)
 {
@@ -235,6 +236,12 @@ static inline uint8_t oam_answer(uint64_t outcome)
 static inline size_t oam_length(uint64_t outcome)
 {
     return (size_t)((outcome >> 8) & 0xFFFFFFFF);
+}
+
+/* The parts of the frame that oam_read_all has read, stored or not. */
+static inline size_t oam_count(uint64_t outcome)
+{
+    return oam_length(outcome);
 }
 
 /*
@@ -384,12 +391,15 @@ uint64_t oam_write_organization(uint64_t source, uint16_t flags, uint32_t oui, c
 uint64_t oam_read(const uint8_t *frame, size_t frame_len, uint64_t *header, size_t header_len);
 
 /*
- * Shows the part that begins at an octet of a frame: stores the octet after it, then the part's numbers.
- * Returns the kind of part. The parts of a frame in order are met from OAM_PARTS_AT, or OAM_EVENTS_AT in
- * an Event Notification, each at the octet after the one before, until OAM_PART_END. The slice has at
- * least OAM_PART_NUMBERS numbers.
+ * Reads a frame and its parts. Stores the header as oam_read does, and the parts in order as rows of
+ * OAM_ROW_NUMBERS numbers, from the start of the slice. The first parts, as many as "first" says, are
+ * passed over; of the others as many are stored as the slice holds whole rows, and what is behind them
+ * stays as it was. TLVs of unknown type are no parts; Loopback Control and organization specific frames
+ * have none. Returns an outcome with the count of all parts of the frame: accepted, OAM_SHORT_OUTPUT for a
+ * shorter header, before all, or a refusal 1 to 8 of the frame.
  */
-uint64_t oam_part(const uint8_t *frame, size_t frame_len, size_t at, uint64_t *part, size_t part_len);
+uint64_t oam_read_all(const uint8_t *frame, size_t frame_len, size_t first, uint64_t *header, size_t header_len,
+                      uint64_t *rows, size_t rows_len);
 
 /*
  * The sent-event log. Writes the line of one event of seven numbers that was sent at a position, 1 to 4,

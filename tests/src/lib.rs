@@ -4,6 +4,7 @@
 //! taken from the product's sources: `paper` is a second implementation,
 //! written from the paper alone, to which the product is compared.
 
+pub mod by_hand;
 pub mod compare;
 pub mod generate;
 pub mod library;

@@ -1,9 +1,10 @@
 //! The hand-written lister, to whose speed the product's is compared. It reads
 //! in pieces and holds one working frame, so that its memory does not grow with
-//! the input. Lines, digits and rows are handled apart from `paper::listing`;
-//! a frame's answer comes from the same walks.
+//! the input. It is apart from `paper::listing`: lines, digits and rows are handled
+//! here, and a frame's answer comes from `by_hand`.
 
-use crate::paper::{answer, check, Heading, HEADER, LONGEST};
+use crate::by_hand;
+use crate::paper::{answer, HEADER, LONGEST};
 use std::io::{self, ErrorKind, Read, Write};
 
 /// Octets asked for by one read.
@@ -70,30 +71,29 @@ impl Lister {
         }
     }
 
-    /// Takes the whole octets with which `piece` begins, and gives what is
-    /// behind them. Octets beyond the frame are counted only.
+    /// Takes the whole octets with which `piece` begins, as many as the frame has
+    /// room for, and gives what is behind them.
     fn take_octets<'a>(&mut self, piece: &'a [u8]) -> &'a [u8] {
         if self.characters % 2 == 1 {
             return piece;
         }
-        let mut octets = self.frame[LONGEST.min(self.characters / 2)..].iter_mut();
+        let room = &mut self.frame[LONGEST.min(self.characters / 2)..];
         let mut taken = 0;
-        for pair in piece.chunks_exact(2) {
+        for (octet, pair) in room.iter_mut().zip(piece.chunks_exact(2)) {
             let (high, low) = (value(pair[0]), value(pair[1]));
             if (high | low) == FOREIGN {
                 break;
             }
-            if let Some(octet) = octets.next() {
-                *octet = (high << 4) | low;
-            }
+            *octet = (high << 4) | low;
             taken += 2;
         }
         self.characters += taken;
         &piece[taken..]
     }
 
-    /// Takes what does not come as a whole octet: a newline, a foreign digit, or
-    /// one of two digits that came with two pieces.
+    /// Takes what does not come as a whole octet into the frame: a newline, a foreign
+    /// digit, one of two digits that came with two pieces. What is beyond the frame
+    /// is counted only.
     fn take_character(&mut self, character: u8) {
         if character == b'\n' {
             return self.end_line();
@@ -111,15 +111,16 @@ impl Lister {
 
     fn end_line(&mut self) {
         match self.answer() {
-            Ok(Heading { code, flags }) => {
+            answer::ACCEPTED => {
+                let flags = u16::from_be_bytes([self.frame[15], self.frame[16]]);
                 self.put_decimal(self.number);
                 self.rows.push(b'\t');
-                self.put_decimal(code.into());
+                self.put_decimal(self.frame[17].into());
                 self.rows.push(b'\t');
                 self.put_decimal(flags.into());
                 self.rows.extend_from_slice(b"\t0\n");
             }
-            Err(refusal) => {
+            refusal => {
                 self.put_decimal(self.number);
                 self.rows.extend_from_slice(b"\t-\t-\t");
                 self.put_decimal(refusal.into());
@@ -131,13 +132,13 @@ impl Lister {
         self.number += 1;
     }
 
-    fn answer(&self) -> Result<Heading, u8> {
+    fn answer(&self) -> u8 {
         if self.foreign || self.characters % 2 == 1 {
-            return Err(answer::TEXT);
+            return answer::TEXT;
         }
         match self.frame.get(..self.characters / 2) {
-            Some(frame) => check(frame),
-            None => Err(answer::LENGTH),
+            Some(frame) => by_hand::answer(frame),
+            None => answer::LENGTH,
         }
     }
 

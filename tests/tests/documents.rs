@@ -1,6 +1,6 @@
 //! The documents against the repository: every link leads somewhere, every name stands in the file that is said to have it,
-//! every public function is among the promises of its crate, has a contract, and has no condition on its caller; and those
-//! that give an end are among those that are said to keep its ranges.
+//! and every entry in the archive's header; every public function is among the promises of its crate, has a contract, and has no
+//! condition on its caller; and those that give an end are among those that are said to keep its ranges.
 
 use std::collections::BTreeSet;
 use std::fs;
@@ -317,6 +317,32 @@ fn what_is_said_to_be_tried_is_there() {
 /// The words of a code text, as names are written.
 fn words(code: &str) -> impl Iterator<Item = &str> {
     code.split(|c: char| !c.is_alphanumeric() && c != '_')
+}
+
+/// The names in a text that are the archive's, as far as they begin like one, and that a header does not have. What the tests
+/// take from their caller is named so too.
+fn not_in_header<'a>(text: &'a str, header: &str) -> BTreeSet<&'a str> {
+    let known: BTreeSet<&str> = words(header).chain(["OAM_ARCHIVE_DIR"]).collect();
+    words(text)
+        .filter(|word| word.starts_with("oam_") || word.starts_with("OAM_"))
+        .filter(|word| !known.contains(word))
+        .collect()
+}
+
+#[test]
+fn every_entry_that_is_named_is_in_the_header() {
+    let header = text(&repository().join("include/oam.h"));
+    for document in documents() {
+        let written = text(&document);
+        let missing = not_in_header(&written, &header);
+        let document = document.display();
+        assert!(missing.is_empty(), "{document}: oam.h has no {missing:?}");
+    }
+    let made_up = "`oam_tick(state)`, `oam_tock` and `OAM_TOCK`; OAM_ARCHIVE_DIR=x";
+    assert_eq!(
+        not_in_header(made_up, "uint64_t oam_tick(void);"),
+        BTreeSet::from(["OAM_TOCK", "oam_tock"])
+    );
 }
 
 /// The types that are an end or hold one, themselves or by another type, among those that a code text declares.

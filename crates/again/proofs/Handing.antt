@@ -1,4 +1,4 @@
--- What the reader shows of a frame in plain form, handed to the writer of its code, is the message that the frame says; so that writer
+-- What the reader gives of a frame in plain form, handed to the writer of its code, is the message that the frame says; so that writer
 -- writes the frame again, octet by octet.
 use Prim.Native.Nat.{ℕ, _*_, _/_, _%_, _≤_}
 use mathlib.Core.Path.{_≡_, refl, sym, ap, _∙_}
@@ -10,10 +10,11 @@ use lib.ListN.{length}
 use lib.Seq.{sets}
 use Rattle.tlvs.specs.Octets.{Octets}
 use Rattle.tlvs.specs.declared.Event.{Event}
-use Rattle.body.specs.Information.{InformationPart, local, remote, keepAll, nothing}
-use Rattle.frame.specs.Frame.{Body, information, notification, request, response, loopback, organization, Message, accepted, decode, readingOf}
+use Rattle.body.specs.Information.{InformationPart, local, remote, foundIn}
+use Rattle.frame.specs.Frame.{Body, information, notification, request, response, loopback, organization, Message, accepted, decode, judgementOf, headerIn, numberIn, fixedNumber}
 use Rattle.frame.specs.Steps.{Stepped}
 use Rattle.frame.proofs.Stepping.{steps-give-parts}
+use Rattle.frame.proofs.Judging.{header-agrees, number-agrees}
 use Rattle.writer.specs.Encode.{encode}
 use Rattle.writer.specs.Plain.{plainParts, plainBody, plain, plainFrame}
 use Rattle.writer.specs.Writing.{writes, written, messageOf, partsOf, eventsFrom, eventsOf}
@@ -21,10 +22,10 @@ use Rattle.writer.specs.declared.Written.the-variants.{Wrote}
 use Rattle.writer.proofs.Bools.{never}
 use Rattle.writer.proofs.Sizes.{plain-body}
 use Rattle.writer.proofs.RoundTrip.{plain-frame}
-use Rattle.again.specs.Handing.{sevens, is, handed, Again}
+use Rattle.again.specs.Handing.{sevens, is, handedBy, handed, Again}
 
 -- the TLVs that a reader finds in a plain body are the body's
-pub found-again : (ps : List InformationPart) → plainParts ps ≡ true → partsOf (keepAll nothing ps) ≡ ps
+pub found-again : (ps : List InformationPart) → plainParts ps ≡ true → partsOf (foundIn ps) ≡ ps
 found-again [] h = refl
 found-again (remote i ∷ ps) h = never h
 found-again (local i ∷ []) h = refl
@@ -55,18 +56,21 @@ module _ (f : List ℕ) (source flags : ℕ) where
   abbrev message : Body → Message
   message b = messageOf source flags b
 
-  body-again : (b : Body) → plainBody b ≡ true → Stepped f b → handed f (readingOf (accepted (message b))) ≡ is (message b)
-  body-again (information ps) h s = ap (λ (x : List InformationPart). is (message (information x))) (found-again ps h)
-  body-again (notification n es) h s =
-      ap (λ (x : List Event). is (message (notification n x))) (ap (λ (x : List Event). eventsOf (sevens x)) (sym (s .1)) ∙ events-again es)
-  body-again (request ds) h s = ap (λ (x : List ℕ). is (message (request x))) (sym s)
-  body-again (response cs) h s = never h
-  body-again (loopback n) h s = refl
-  body-again (organization oui x) h s = ap (λ (y : List ℕ). is (message (organization oui y))) (sym (s .1))
+  body-again : (b : Body) → plainBody b ≡ true → Stepped f b → fixedNumber f ≡ numberIn b → handedBy f (headerIn (message b)) ≡ is (message b)
+  body-again (information ps) h s n = ap (λ (x : List InformationPart). is (message (information x))) (ap (λ (x : List InformationPart). partsOf (foundIn x)) (sym s) ∙ found-again ps h)
+  body-again (notification number es) h s n =
+      rw n (ap (λ (x : List Event). is (message (notification number x))) (ap (λ (x : List Event). eventsOf (sevens x)) (sym (s .1)) ∙ events-again es))
+  body-again (request ds) h s n = ap (λ (x : List ℕ). is (message (request x))) (sym s)
+  body-again (response cs) h s n = never h
+  body-again (loopback command) h s n = ap (λ (x : ℕ). is (message (loopback x))) n
+  body-again (organization oui x) h s n = rw n (ap (λ (y : List ℕ). is (message (organization oui y))) (sym (s .1)))
 
 -- what is handed over is the message that the frame says
-pub handed-again : (f : List ℕ) (m : Message) → plain m ≡ true → decode f ≡ accepted m → handed f (readingOf (decode f)) ≡ is m
-handed-again f m p d = rw d (body-again f (m .source) (m .flags) (m .body) (plain-body m p) (steps-give-parts f m d))
+pub handed-again : (f : List ℕ) (m : Message) → plain m ≡ true → decode f ≡ accepted m → handed f (judgementOf f) ≡ is m
+unfolding judgementOf
+handed-again f m p d =
+    rw (d, header-agrees f m d)
+    (body-again f (m .source) (m .flags) (m .body) (plain-body m p) (steps-give-parts f m d) (number-agrees f m d))
 
 -- the writer of a message that is in plain form, where the output is long enough
 module _ (m : Message) (p : plain m ≡ true) (f : List ℕ) (e : encode m ≡ f) (out : List ℕ) (h : length f ≤ length out) where

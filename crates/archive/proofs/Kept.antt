@@ -3,7 +3,6 @@
 use Prim.Native.Nat.{ℕ}
 use mathlib.Core.Path.{_≡_, refl, sym, ap, _∙_}
 use mathlib.Core.List.{List, [], _∷_, _++_}
-use mathlib.Core.Bool.{true, false}
 use borrow.Author.Tests.{eqb-false, eq-eqb}
 use lib.Dec.{ltb, leb, eqb}
 use lib.ListN.{length}
@@ -14,12 +13,12 @@ use Rattle.end.specs.declared.FreshEnd.{FreshEnd}
 use Rattle.end.specs.declared.FreshEnd.the-variants.{Is}
 use Rattle.link.specs.declared.Outcome.{Outcome}
 use Rattle.end.specs.State.{freshEnd, freshOf}
-use Rattle.packing.specs.Octets.{packedIn, unpacked}
+use Rattle.packing.specs.Octets.{stateLength, packedIn, unpacked}
 use Rattle.packing.proofs.Packing.{unpacked-packed, unpacked-ranged, stored-unpacked}
 use Rattle.concluding.specs.Concluding.{steppedNumber, steppedState}
 use Rattle.reach.specs.Machine.{tick, report, receive, request, Call, outcomeOf}
 use Rattle.reach.specs.Runs.{after}
-use Rattle.reach.specs.Premises.{Accepted, OfOctets, AllOfOctets}
+use Rattle.reach.specs.Premises.{Accepted, OfOctets}
 use Rattle.reach.proofs.Bools.{whether}
 use Rattle.reach.proofs.Refusing.{refused-unchanged}
 use Rattle.reach.proofs.Standing.{fresh-ranged}
@@ -28,16 +27,16 @@ use Rattle.oam.specs.Machine.{answered, kept, wrote, heardShown, heardIn, fresh
 use Rattle.archive.specs.Entries.{EntryInput, ticks, reports, receives, asks, EntryCall, outcomeFor, outputFor, comesTo, keptAfter, callOf, callsIn, EntryOctets, AllOfOctetsIn}
 
 -- what oam_fresh stores for settings that the paper takes
-made-fresh : (s : Settings) → Accepted s → (state : List ℕ) → length state ≡ 48 → freshFor s state ≡ Is (freshEnd s)
+made-fresh : (s : Settings) → Accepted s → (state : List ℕ) → length state ≡ stateLength → freshFor s state ≡ Is (freshEnd s)
 unfolding freshFor freshOf
-made-fresh s a state l = rw (eq-eqb (length state) 48 l, a .sound)
+made-fresh s a state l = rw (eq-eqb (length state) stateLength l, a .sound)
 
-pub stored-fresh : (s : Settings) → Accepted s → (state : List ℕ) → length state ≡ 48
+pub stored-fresh : (s : Settings) → Accepted s → (state : List ℕ) → length state ≡ stateLength
     → unpacked (freshState (freshFor s state) state) ≡ Is (freshEnd s)
 unfolding packedIn
 stored-fresh s a state l =
     ap (λ (f : FreshEnd). unpacked (freshState f state)) (made-fresh s a state l)
-    ∙ rw (eq-eqb (length state) 48 l) (unpacked-packed (freshEnd s) (fresh-ranged s (a .sound) (a .vendor)))
+    ∙ rw (eq-eqb (length state) stateLength l) (unpacked-packed (freshEnd s) (fresh-ranged s (a .sound) (a .vendor)))
 
 -- what the machine's calls make of an end
 abbrev endAfter : List Call → End → End
@@ -72,7 +71,7 @@ after-appended s (c ∷ new) cs = ap (λ (e : End). outcomeOf c e .end) (after-a
 
 -- ---- every history
 
-module _ (s : Settings) (a : Accepted s) (state : List ℕ) (l : length state ≡ 48) where
+module _ (s : Settings) (a : Accepted s) (state : List ℕ) (l : length state ≡ stateLength) where
   pub kept-run : (xs : List EntryCall) → AllOfOctetsIn xs → unpacked (keptAfter s state xs) ≡ Is (after s (callsIn xs))
   kept-run [] o = stored-fresh s a state l
   kept-run (x ∷ xs) o =

@@ -1,4 +1,4 @@
-pub mod Gathering
+pub mod Judging
 pub mod Wholes
 pub mod Strides
 pub mod Places

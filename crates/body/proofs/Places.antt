@@ -6,8 +6,7 @@ use mathlib.Core.List.{List}
 use native.Mathlib.Omega.{arith}
 use lib.ListN.{length}
 use Rattle.tlvs.specs.Tlvs.{markAt}
-use Rattle.tlvs.specs.Walk.{Next, stop, broken, skip, has, Walk, over, part, onNext, walk, whole, parts}
-use Rattle.body.specs.Information.{nothing}
+use Rattle.tlvs.specs.Walk.{Next, stop, broken, skip, has, Walk, onNext, walk, whole}
 use Rattle.body.specs.Information.{informationStep, nextOf as informationNext}
 use Rattle.tlvs.specs.Events.{stepOf, eventStep, nextOf, eventWalk}
 use Rattle.body.specs.Variables.{descriptorStep, descriptorNext, descriptorWalk, containerStep, containerNext, containerWalk}
@@ -21,7 +20,7 @@ use Rattle.body.specs.declared.ContainerStep.{ContainerStep}
 use Rattle.body.specs.declared.ContainerStep.the-variants.{End as ContainerEnd, Broken as ContainerBroken, Value, Indication}
 use Rattle.body.specs.declared.ListKind.the-variants.{Events, Descriptors, Containers}
 use Rattle.tlvs.proofs.Walks.{Ahead, Leads, unrolls}
-use Rattle.body.proofs.Gathering.{information-leads}
+use Rattle.body.proofs.Judging.{information-leads}
 use Rattle.body.proofs.Wholes.{list-leads}
 
 -- a step with nothing said of the part

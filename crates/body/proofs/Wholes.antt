@@ -1,16 +1,14 @@
 -- Laws of the walk over a list of events, descriptors or containers.
-use Prim.Native.Nat.{ℕ, zero, suc, _+_, _-_, _<_, _≤_}
-use mathlib.Core.Path.{_≡_, refl, sym, ap, _∙_}
-use mathlib.Core.Bool.{Bool, true, false}
+use Prim.Native.Nat.{ℕ, _+_, _-_, _≤_}
+use mathlib.Core.Path.{_≡_, refl, ap}
 use mathlib.Core.List.{List}
 use native.Mathlib.Omega.{arith}
 use borrow.Author.Tests.{ltb-false, leb-false, le-leb}
 use lib.ListN.{length, getD}
 use lib.Dec.{ltb, leb, eqb}
 use Rattle.tlvs.specs.Tlvs.{markAt}
-use Rattle.tlvs.specs.Walk.{Next, stop, broken, skip, has, Walk, onNext, walk, whole}
-use Rattle.tlvs.specs.Events.{eventStep, eventWalk}
-use Rattle.body.specs.Variables.{descriptorStep, widthOf, containerFrom, containerStep, descriptorWalk, containerWalk}
+use Rattle.tlvs.specs.Walk.{whole}
+use Rattle.body.specs.Variables.{descriptorStep, widthOf, containerFrom, containerStep}
 use Rattle.body.specs.Lists.{ofMark, ofDescriptor, ofContainer, placeAt, placeNext, wholeList}
 use Rattle.tlvs.specs.declared.Mark.{Mark}
 use Rattle.tlvs.specs.declared.Mark.the-variants.{End as MarkEnd, Broken as MarkBroken, Unknown, Known}
@@ -20,7 +18,6 @@ use Rattle.body.specs.declared.DescriptorStep.the-variants.{End as Descr
 use Rattle.body.specs.declared.ContainerStep.{ContainerStep}
 use Rattle.body.specs.declared.ContainerStep.the-variants.{End as ContainerEnd, Broken as ContainerBroken, Value, Indication}
 use Rattle.body.specs.declared.lists.Place.{Place}
-use Rattle.body.specs.declared.lists.Place.the-variants.{End, Broken, Skip, Has}
 use Rattle.body.specs.declared.ListKind.{ListKind}
 use Rattle.body.specs.declared.ListKind.the-variants.{Events, Descriptors, Containers}
 use Rattle.tlvs.proofs.Walks.{by-cond, Ahead, Rest, Then, Leads, turn}

@@ -1,7 +1,7 @@
--- The parts of an Information body, and what a reader finds there.
+-- The parts of an Information body, and the Local and Remote among them.
 use Prim.Native.Nat.{ℕ, _+_}
 use mathlib.Core.List.{List, [], _∷_}
-use mathlib.Core.Bool.{Bool, true, false, cond}
+use mathlib.Core.Bool.{Bool, true, cond}
 use lib.ListN.{length}
 use lib.Dec.{eqb}
 use Rattle.tlvs.specs.Octets.{num}
@@ -64,14 +64,16 @@ informationParts l r (over w) = informationParts l r w
 informationParts l r (part (local i) w) = cond l (refused 7) (also (local i) (informationParts true r w))
 informationParts l r (part (remote i) w) = cond r (refused 7) (also (remote i) (informationParts l true w))
 
--- what a reader finds of the parts
-abbrev pub keep : Found → InformationPart → Found
-keep found (local i) = record { local = Is i; remote = found .remote }
-keep found (remote i) = record { local = found .local; remote = Is i }
+-- the first Local of the parts, and the first Remote: an accepted body has no second
+abbrev pub localIn : List InformationPart → Held
+localIn [] = Nothing
+localIn (local i ∷ ps) = Is i
+localIn (remote i ∷ ps) = localIn ps
 
-abbrev pub keepAll : Found → List InformationPart → Found
-keepAll found [] = found
-keepAll found (p ∷ ps) = keepAll (keep found p) ps
+abbrev pub remoteIn : List InformationPart → Held
+remoteIn [] = Nothing
+remoteIn (local i ∷ ps) = remoteIn ps
+remoteIn (remote i ∷ ps) = Is i
 
-abbrev pub nothing : Found
-nothing = record { local = Nothing; remote = Nothing }
+abbrev pub foundIn : List InformationPart → Found
+foundIn ps = record { local = localIn ps; remote = remoteIn ps }

@@ -1,4 +1,4 @@
 pub mod Information
 pub mod Variables
 pub mod Lists
-pub mod Gathering
+pub mod Judging

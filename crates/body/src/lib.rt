@@ -2,15 +2,17 @@
 //
 // The parts of a body are taken in order, one a call, by the step of their kind: `information_step`, `descriptor_step`,
 // `container_step`, and for events `event_step` of `tlvs`. Begin at octet 0, and go on at the octet that each step gives, until the end. A step
-// judges what stands at its octet alone: a second Local is shown as a Local, and it is `gather` that refuses such a body.
+// judges what stands at its octet alone: a second Local is shown as a Local, and it is `judge_information` that refuses such a
+// body.
 // Nothing is copied out of a body but numbers: what is longer is a part of the caller's own octets.
 mod lists;
 mod local_remote;
 mod variables;
 
 pub use lists::is_whole;
-pub use local_remote::gather;
 pub use local_remote::information_step;
+pub use local_remote::judge_information;
+pub use local_remote::local_at;
 pub use variables::container_step;
 pub use variables::container_value;
 pub use variables::descriptor_step;
@@ -38,10 +40,11 @@ pub struct Found {
     pub remote: Held,
 }
 
-// What an Information body comes to: the number of its refusal, or the TLVs found.
-pub enum Gathered {
+// What an Information body comes to: the number of its refusal, or where its Local TLV stands, the body's length where it
+// has none.
+pub enum Judged {
     Refused(u8),
-    Whole(Found),
+    Whole(usize),
 }
 
 // What stands at an octet of a body, with the octet after it. An unknown TLV is to be skipped.

@@ -3,20 +3,13 @@ ghost use mathlib.Core.Path.{_≡_};
 ghost use Prim.Native.Nat.{_+_, _≤_};
 ghost use lib.ListN.{length};
 ghost use Rattle.body.specs.Information.{informationAt, informationStep};
-ghost use Rattle.body.specs.Gathering.{keepLocal, keepRemote, turnOf, gatheredOf};
-use crate::Found;
-use crate::Gathered;
+ghost use Rattle.body.specs.Judging.{localAt, judgedOf};
 use crate::Held;
 use crate::Information;
 use crate::InformationStep;
+use crate::Judged;
 use tlvs::Kind;
 use tlvs::Mark;
-
-// One turn of the walk: the answer, or the octet to go on from with what is found so far.
-pub enum Turn {
-    Done(Gathered),
-    More(usize, Found),
-}
 
 // The fields of the Information TLV at an octet.
 fn information_at(body: &[u8], at: usize) -> Information
@@ -52,69 +45,50 @@ pub fn information_step(body: &[u8], at: usize) -> InformationStep
     }
 }
 
-fn keep_local(found: Found, i: Information, next: usize) -> Turn
-    ensures { λ r. ⌜ r ≡ keepLocal found i next ⌝ }
+// The Local TLV at an octet where one stands; its type is not looked at. Nothing where sixteen octets would run past the end.
+pub fn local_at(body: &[u8], at: usize) -> Held
+    ensures { λ r. ⌜ r ≡ localAt (now (body .entry)) at ⌝ }
 {
-    let l = found.local;
-    let r = found.remote;
-    match l {
-        Held::Is(_) => Turn::Done(Gathered::Refused(7)),
-        Held::Nothing => Turn::More(
-            next,
-            Found {
-                local: Held::Is(i),
-                remote: r,
-            },
-        ),
+    if body.len() < at {
+        return Held::Nothing;
     }
+    if body.len() - at < 16 {
+        return Held::Nothing;
+    }
+    Held::Is(information_at(body, at))
 }
 
-fn keep_remote(found: Found, i: Information, next: usize) -> Turn
-    ensures { λ r. ⌜ r ≡ keepRemote found i next ⌝ }
-{
-    let l = found.local;
-    let r = found.remote;
-    match r {
-        Held::Is(_) => Turn::Done(Gathered::Refused(7)),
-        Held::Nothing => Turn::More(
-            next,
-            Found {
-                local: l,
-                remote: Held::Is(i),
-            },
-        ),
-    }
-}
-
-fn turn_of(step: InformationStep, found: Found) -> Turn
-    ensures { λ r. ⌜ r ≡ turnOf step found ⌝ }
-{
-    match step {
-        InformationStep::End => Turn::Done(Gathered::Whole(found)),
-        InformationStep::Broken => Turn::Done(Gathered::Refused(6)),
-        InformationStep::Skip(next) => Turn::More(next, found),
-        InformationStep::Local(i, next) => keep_local(found, i, next),
-        InformationStep::Remote(i, next) => keep_remote(found, i, next),
-    }
-}
-
-// The Local and the Remote of an Information body.
-pub fn gather(body: &[u8]) -> Gathered
-    ensures { λ r. ⌜ r ≡ gatheredOf (now (body .entry)) ⌝ }
+// What an Information body comes to. Only types and lengths are looked at: who needs a value takes it from where it stands.
+pub fn judge_information(body: &[u8]) -> Judged
+    ensures { λ r. ⌜ r ≡ judgedOf (now (body .entry)) ⌝ }
 {
     let mut at: usize = 0;
-    let mut found = Found {
-        local: Held::Nothing,
-        remote: Held::Nothing,
-    };
+    let mut local: usize = body.len();
+    let mut remote = false;
     loop {
-        match turn_of(information_step(body, at), found) {
-            Turn::Done(answer) => {
-                return answer;
+        match tlvs::mark_at(Kind::Information, body, at) {
+            Mark::End => {
+                return Judged::Whole(local);
             }
-            Turn::More(next, more) => {
+            Mark::Broken => {
+                return Judged::Refused(6);
+            }
+            Mark::Unknown(next) => {
                 at = next;
-                found = more;
+            }
+            Mark::Known(t, next) => {
+                if t == 1 {
+                    if local < body.len() {
+                        return Judged::Refused(7);
+                    }
+                    local = at;
+                } else {
+                    if remote {
+                        return Judged::Refused(7);
+                    }
+                    remote = true;
+                }
+                at = next;
             }
         }
     }

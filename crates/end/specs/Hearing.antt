@@ -1,25 +1,42 @@
 -- What is heard of a frame.
-use Rattle.body.specs.declared.Held.{Held}
-use Rattle.body.specs.declared.Held.the-variants.{Nothing}
-use Rattle.frame.specs.declared.Header.{Header}
-use Rattle.frame.specs.declared.Reading.{Reading}
-use Rattle.frame.specs.declared.Reading.the-variants.{Refused, Information as InformationIs, Notification, Request, Response, Loopback, Organization}
+use Prim.Native.Nat.{ℕ}
+use mathlib.Core.List.{List}
+use mathlib.Core.Bool.{cond}
+use lib.Dec.{eqb}
+use lib.ListN.{drop}
+use Rattle.body.specs.Judging.{localAt}
+use Rattle.frame.specs.Frame.{Body, information, notification, request, response, loopback, organization, Message, Answer, refused, accepted, headerIn, headerOf, eventNumber, commandOf, localOf}
 use Rattle.end.specs.declared.Action.{Action}
 use Rattle.end.specs.declared.Action.the-variants.{Inform, Notify, Command, Other}
 use Rattle.end.specs.declared.Heard.{Heard}
 use Rattle.end.specs.declared.Said.{Said}
 use Rattle.end.specs.declared.Said.the-variants.{Refusal, Is}
 
--- what the machine hears of an accepted frame: its header, its Local TLV if it has one, and what its body asks
-abbrev pub heardOf : Header → Held → Action → Heard
-heardOf h local action = record { header = h; local = local; action = action }
+-- what a body asks of the machine
+abbrev pub actionOf : Body → Action
+actionOf (information ps) = Inform
+actionOf (notification n es) = Notify n
+actionOf (request ds) = Other
+actionOf (response cs) = Other
+actionOf (loopback n) = Command n
+actionOf (organization oui x) = Other
 
--- what a reading says to the machine: why the frame is refused, or what is heard of it
-abbrev pub saidBy : Reading → Said
-saidBy (Refused n) = Refusal n
-saidBy (InformationIs h found) = Is (heardOf h (found .local) Inform)
-saidBy (Notification h n) = Is (heardOf h Nothing (Notify n))
-saidBy (Request h) = Is (heardOf h Nothing Other)
-saidBy (Response h) = Is (heardOf h Nothing Other)
-saidBy (Loopback h command) = Is (heardOf h Nothing (Command command))
-saidBy (Organization h oui) = Is (heardOf h Nothing Other)
+-- what the machine hears of a message: its header, its Local TLV if it has one, and what its body asks
+abbrev pub heardOf : Message → Heard
+heardOf m = record { header = headerIn m; local = localOf (m .body); action = actionOf (m .body) }
+
+-- what a frame says to the machine: why it is refused, or what is heard of it
+abbrev pub saidBy : Answer → Said
+saidBy (refused n) = Refusal n
+saidBy (accepted m) = Is (heardOf m)
+
+-- how the code comes to it: from the octets of a frame whose Local TLV stands at an octet of its body
+abbrev pub actionBy : List ℕ → ℕ → Action
+actionBy f code =
+    cond (eqb code 0) Inform
+    (cond (eqb code 1) (Notify (eventNumber f))
+    (cond (eqb code 4) (Command (commandOf f))
+    Other))
+
+abbrev pub heardAt : List ℕ → ℕ → Heard
+heardAt f at = record { header = headerOf f; local = localAt (drop 18 f) at; action = actionBy f (headerOf f .code) }

@@ -53,18 +53,30 @@ octetChanged before after = not (eqb (octetOf before) (octetOf after))
 unfoldable pub changed : End → End → Bool
 changed before e = octetChanged (before .role) (e .role) || not (eqb (flagsToSend before) (flagsToSend e))
 
+-- what an end says of itself after a call, by whether an Information frame is allowed, whether the State octet has changed, whether there
+-- is a change to tell, and whether one is due
+abbrev pub ownIn : Bool → Bool → Bool → Bool → Own → Own
+ownIn permits octet told due o =
+    record {
+      revision = revised octet (o .revision);
+      number = o .number;
+      gasp = o .gasp;
+      critical = o .critical;
+      owed = owes permits (o .owed) due told;
+    }
+
 -- the revision, and what is owed, after a call that made e of `before`; `due`: a loopback command was obeyed, or a second closed
 unfoldable pub dues : End → Bool → End → End
-dues before due e =
-    withOwn
-    (record {
-      revision = revised (octetChanged (before .role) (e .role)) (e .own .revision);
-      number = e .own .number;
-      gasp = e .own .gasp;
-      critical = e .own .critical;
-      owed = owes (allowed e) (e .own .owed) due (changed before e);
-    })
-    e
+dues before due e = withOwn (ownIn (allowed e) (octetChanged (before .role) (e .role)) (changed before e) due (e .own)) e
+
+-- how the code comes to it, by where discovery stands
+abbrev pub flagsChanged : End → Discovery → End → Bool
+flagsChanged before standing e = not (eqb (flagsToSend before) (flagsAt standing (faultOf e) e))
+
+abbrev pub ownAfter : End → Bool → Discovery → End → Own
+ownAfter before due standing e =
+    let octet = octetChanged (before .role) (e .role) in
+    ownIn (allowedIn standing (faultOf e)) octet (octet || flagsChanged before standing e) due (e .own)
 
 -- "the next tick, receive or report (the same call if it can) writes it while fewer than ten are written"
 unfoldable pub sends : End → Bool
@@ -76,3 +88,7 @@ paid o = record { revision = o .revision; number = o .number; gasp = o .gasp; cr
 -- the end after its Information frame is written
 unfoldable pub sent : End → End
 sent e = withOwn (paid (e .own)) (withMeter (chargedMeter (e .meter)) e)
+
+-- the end after a call: its owed frame is written where it may be
+abbrev pub afterSending : End → End
+afterSending e = cond (sends e) (sent e) e

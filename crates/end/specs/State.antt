@@ -67,5 +67,8 @@ unfoldable pub faulted : End → End
 faulted e = withRole Idle (withPeer noPeer e)
 
 -- after the moves: "Leaving SEND_ANY makes the role Idle (HOUSE)."
+abbrev pub settledIn : Discovery → End → End
+settledIn standing e = withRole (roleIn standing (e .role)) e
+
 unfoldable pub settled : End → End
-settled e = withRole (roleIn (discoveryOf e) (e .role)) e
+settled e = settledIn (discoveryOf e) e

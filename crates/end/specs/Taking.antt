@@ -19,12 +19,15 @@ use Rattle.end.specs.declared.Taken.{Taken}
 use Rattle.end.specs.State.{withLink, withPeer, withRole, inAny, settled}
 use Rattle.end.specs.Sending.{dues}
 
--- "lost-link count to 0; kept field from the flags; peer record from any Local TLV; moves"
+-- "lost-link count to 0; kept field from the flags; peer record from any Local TLV"
+abbrev pub known : Heard → End → End
+known m e =
+    withPeer (record { kept = keptFrom (m .header .flags) (e .peer .kept); held = recordFrom (m .local) (e .peer .held); last = e .peer .last })
+    (withLink (record { up = e .link .up; lost = 0 }) e)
+
+-- the same, then the "moves"
 unfoldable pub learned : Heard → End → End
-learned m e =
-    settled
-    (withPeer (record { kept = keptFrom (m .header .flags) (e .peer .kept); held = recordFrom (m .local) (e .peer .held); last = e .peer .last })
-    (withLink (record { up = e .link .up; lost = 0 }) e))
+learned m e = settled (known m e)
 
 -- whether a command from a source is obeyed
 unfoldable pub obeysCommand : ℕ → ℕ → End → Bool
@@ -89,6 +92,9 @@ taken m e = cond (e .link .up) (takenUp m e) (record { end = e; due = false; sho
 unfoldable pub takenDue : Heard → End → End
 takenDue m e = dues e (taken m e .due) (taken m e .end)
 
--- a frame as the calls take it: the end with what is owed after it, and what is shown
+-- what a frame comes to with what is owed after it
+abbrev pub dueTaken : End → Taken → Taken
+dueTaken e t = record { end = dues e (t .due) (t .end); due = t .due; shown = t .shown }
+
 unfoldable pub takenWhole : Heard → End → Taken
-takenWhole m e = record { end = takenDue m e; due = taken m e .due; shown = taken m e .shown }
+takenWhole m e = dueTaken e (taken m e)

@@ -1,48 +1,43 @@
 // What is heard of a frame. Nothing else is taken for heard.
 ghost use mathlib.Core.Path.{_≡_};
-ghost use Rattle.frame.specs.Frame.{decode, readingOf};
-ghost use Rattle.end.specs.Hearing.{heardOf, saidBy};
+ghost use Rattle.frame.specs.Frame.{decode};
+ghost use Rattle.end.specs.Hearing.{actionBy, heardAt, saidBy};
 use crate::Action;
 use crate::Heard;
 use crate::Said;
-use body::Held;
-use frame::Header;
-use frame::Reading;
+use frame::Judgement;
 
-fn heard(header: Header, local: Held, action: Action) -> Said
-    ensures { λ r. ⌜ r ≡ Said.Is (heardOf header local action) ⌝ }
+// What the body asks, by its code.
+fn action_by(frame: &[u8], code: u8) -> Action
+    ensures { λ r. ⌜ r ≡ actionBy (now (frame .entry)) code ⌝ }
 {
-    Said::Is(Heard {
-        header: header,
-        local: local,
-        action: action,
-    })
+    match code {
+        0 => Action::Inform,
+        1 => Action::Notify(frame::event_number(frame)),
+        4 => Action::Command(frame::command_of(frame)),
+        _ => Action::Other,
+    }
 }
 
-fn said_by(reading: Reading) -> Said
-    ensures { λ r. ⌜ r ≡ saidBy reading ⌝ }
+// What is heard of an accepted frame whose Local TLV stands at an octet of its body.
+fn heard_at(frame: &[u8], at: usize) -> Heard
+    ensures { λ r. ⌜ r ≡ heardAt (now (frame .entry)) at ⌝ }
 {
-    match reading {
-        Reading::Refused(answer) => Said::Refusal(answer),
-        Reading::Information(header, found) => {
-            let local = found.local;
-            heard(header, local, Action::Inform)
-        }
-        Reading::Notification(header, n) => heard(header, Held::Nothing, Action::Notify(n)),
-        Reading::Request(header) => heard(header, Held::Nothing, Action::Other),
-        Reading::Response(header) => heard(header, Held::Nothing, Action::Other),
-        Reading::Loopback(header, command) => heard(
-            header,
-            Held::Nothing,
-            Action::Command(command),
-        ),
-        Reading::Organization(header, _) => heard(header, Held::Nothing, Action::Other),
+    let header = frame::header_of(frame);
+    let code = header.code;
+    Heard {
+        header: header,
+        local: body::local_at(frame::body(frame), at),
+        action: action_by(frame, code),
     }
 }
 
 // Why a frame is refused, or what is heard of it.
 pub fn hear(frame: &[u8]) -> Said
-    ensures { λ r. ⌜ r ≡ saidBy (readingOf (decode (now (frame .entry)))) ⌝ }
+    ensures { λ r. ⌜ r ≡ saidBy (decode (now (frame .entry))) ⌝ }
 {
-    said_by(frame::read(frame))
+    match frame::judge(frame) {
+        Judgement::Refused(answer) => Said::Refusal(answer),
+        Judgement::Accepted(at) => Said::Is(heard_at(frame, at)),
+    }
 }

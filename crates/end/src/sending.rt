@@ -1,6 +1,6 @@
 // What every call ends with: the revision, what is owed, and what an Information frame is to say.
 ghost use mathlib.Core.Path.{_≡_};
-ghost use Rattle.end.specs.Sending.{faultOf, flagsAt, flagsToSend, tlvsToSend, octetChanged, dues, sends, sent};
+ghost use Rattle.end.specs.Sending.{faultOf, flagsAt, flagsToSend, tlvsToSend, octetChanged, ownIn, ownAfter, dues, sends, afterSending};
 use crate::End;
 use crate::Own;
 use crate::state::discovery;
@@ -19,7 +19,7 @@ pub(crate) fn is_fault(e: End) -> bool
 }
 
 // The flags to be sent, by where discovery stands and whether the link-fault flag is set.
-fn flags_at(e: End, standing: Discovery, fault: bool) -> u16
+pub(crate) fn flags_at(e: End, standing: Discovery, fault: bool) -> u16
     ensures { λ r. ⌜ r ≡ flagsAt standing fault e ⌝ }
 {
     let own = e.own;
@@ -62,43 +62,48 @@ pub fn tlvs(e: End) -> Found
     }
 }
 
-fn octet_changed(before: Role, after: Role) -> bool
+pub(crate) fn octet_changed(before: Role, after: Role) -> bool
     ensures { λ r. ⌜ r ≡ octetChanged before after ⌝ }
 {
     before.octet() != after.octet()
+}
+
+// What an end says of itself after a call: its revision, and what is owed, by whether an Information frame is allowed, whether
+// the State octet has changed, whether there is a change to tell, and whether one is due.
+pub(crate) fn own_in(allowed: bool, octet: bool, told: bool, due: bool, own: Own) -> Own
+    ensures { λ r. ⌜ r ≡ ownIn allowed octet told due own ⌝ }
+{
+    Own {
+        revision: limit::next_revision(octet, own.revision),
+        owed: limit::is_owed(allowed, own.owed, due, told),
+        ..own
+    }
+}
+
+// The same after a call that made an end of another, by where discovery stands then.
+pub(crate) fn own_after(before: End, due: bool, standing: Discovery, e: End) -> Own
+    ensures { λ r. ⌜ r ≡ ownAfter before due standing e ⌝ }
+{
+    let was = before.role;
+    let is = e.role;
+    let octet = octet_changed(was, is);
+    let fault = is_fault(e);
+    let told = peer::either(octet, flags(before) != flags_at(e, standing, fault));
+    own_in(
+        discovery::allowed_in(standing, fault),
+        octet,
+        told,
+        due,
+        e.own,
+    )
 }
 
 // The revision, and what is owed, after a call that made an end of another.
 pub(crate) fn note(before: End, due: bool, e: End) -> End
     ensures { λ r. ⌜ r ≡ dues before due e ⌝ }
 {
-    let own = e.own;
-    let was = before.role;
-    let is = e.role;
-    let octet = octet_changed(was, is);
-    let standing = discovery(e);
-    let fault = is_fault(e);
-    let told = peer::either(octet, flags(before) != flags_at(e, standing, fault));
-    let allowed = discovery::allowed_in(standing, fault);
-    let next = Own {
-        revision: limit::next_revision(octet, own.revision),
-        owed: limit::is_owed(allowed, own.owed, due, told),
-        ..own
-    };
-    End { own: next, ..e }
-}
-
-// The end after its Information frame is written.
-pub fn pay(e: End) -> End
-    ensures { λ r. ⌜ r ≡ sent e ⌝ }
-{
-    let own = e.own;
-    let meter = e.meter;
-    End {
-        own: Own { owed: false, ..own },
-        meter: limit::charged(meter),
-        ..e
-    }
+    let own = own_after(before, due, discovery(e), e);
+    End { own: own, ..e }
 }
 
 // Whether the owed Information frame may be written.
@@ -110,4 +115,20 @@ pub fn is_sending(e: End) -> bool
         return limit::has_room(e.meter);
     }
     false
+}
+
+// The end after a call: its owed Information frame is written where it may be.
+pub fn after_sending(e: End) -> End
+    ensures { λ r. ⌜ r ≡ afterSending e ⌝ }
+{
+    let own = e.own;
+    let meter = e.meter;
+    if is_sending(e) {
+        return End {
+            own: Own { owed: false, ..own },
+            meter: limit::charged(meter),
+            ..e
+        };
+    }
+    e
 }

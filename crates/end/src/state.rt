@@ -1,6 +1,6 @@
 // A fresh end, where discovery stands, the parts of an end, and the steps that put one part anew.
 ghost use mathlib.Core.Path.{_≡_};
-ghost use Rattle.end.specs.State.{freshEnd, freshOf, discoveryOf, inAny, noPeer, faulted, settled};
+ghost use Rattle.end.specs.State.{freshEnd, freshOf, discoveryOf, inAny, noPeer, faulted, settledIn};
 use crate::End;
 use crate::FreshEnd;
 use crate::Last;
@@ -86,12 +86,12 @@ pub(crate) fn fault(e: End) -> End
     }
 }
 
-// The role after the moves.
-pub(crate) fn settle(e: End) -> End
-    ensures { λ r. ⌜ r ≡ settled e ⌝ }
+// The role after the moves, by where they have led.
+pub(crate) fn settle_in(standing: Discovery, e: End) -> End
+    ensures { λ r. ⌜ r ≡ settledIn standing e ⌝ }
 {
     let role = e.role;
-    let next = discovery::role_in(discovery(e), role);
+    let next = discovery::role_in(standing, role);
     End { role: next, ..e }
 }
 

@@ -1,6 +1,6 @@
 // What a received frame makes of an end: what is kept of it, the moves, and the body's action.
 ghost use mathlib.Core.Path.{_≡_};
-ghost use Rattle.end.specs.Taking.{learned, obeysCommand, roleAfter, lastAfter, obeyed, acted, isRepeat, shownEvents, shownOf, takenUp, taken, takenWhole};
+ghost use Rattle.end.specs.Taking.{known, obeysCommand, roleAfter, lastAfter, obeyed, acted, isRepeat, shownEvents, shownOf, takenUp, dueTaken, takenWhole};
 use crate::Action;
 use crate::End;
 use crate::Heard;
@@ -10,15 +10,16 @@ use crate::Peer;
 use crate::Shown;
 use crate::Taken;
 use crate::sending::note;
-use crate::state::in_any;
-use crate::state::settle;
+use crate::sending::own_after;
+use crate::state::discovery;
+use crate::state::settle_in;
 use body::Held;
 use frame::Header;
 use loopback::Role;
 
-// The lost-link count, the kept field, the peer record, and the moves.
-fn learn(m: Heard, e: End) -> End
-    ensures { λ r. ⌜ r ≡ learned m e ⌝ }
+// The lost-link count, the kept field and the peer record.
+fn know(m: Heard, e: End) -> End
+    ensures { λ r. ⌜ r ≡ known m e ⌝ }
 {
     let header = m.header;
     let local = m.local;
@@ -30,11 +31,11 @@ fn learn(m: Heard, e: End) -> End
         held: peer::record_from(local, held),
         ..peer
     };
-    settle(End {
+    End {
         peer: next,
         link: Link { lost: 0, ..link },
         ..e
-    })
+    }
 }
 
 // The role after the body's action, by whether it was a command that is obeyed.
@@ -140,38 +141,28 @@ fn show(header: Header, action: Action, last: Last) -> Shown
 
 // With the link up: what is learned, and in SEND_ANY the body's action.
 fn take_up(m: Heard, e: End) -> Taken
-    ensures { λ r. ⌜ r ≡ takenUp m e ⌝ }
+    ensures { λ r. ⌜ r ≡ dueTaken e (takenUp m e) ⌝ }
 {
     let header = m.header;
     let action = m.action;
     let peer = e.peer;
     let last = peer.last;
-    let next = learn(m, e);
-    if in_any(next) {
+    let known = know(m, e);
+    let standing = discovery(known);
+    let next = settle_in(standing, known);
+    if discovery::is_any(standing) {
         let obeyed = is_obeyed(header.source, action, next);
+        let acted = act(m, obeyed, next);
+        let own = own_after(e, obeyed, standing, acted);
         return Taken {
-            end: act(m, obeyed, next),
+            end: End { own: own, ..acted },
             due: obeyed,
             shown: show(header, action, last),
         };
     }
+    let own = own_after(e, false, standing, next);
     Taken {
-        end: next,
-        due: false,
-        shown: Shown::Frame(header),
-    }
-}
-
-fn take(m: Heard, e: End) -> Taken
-    ensures { λ r. ⌜ r ≡ taken m e ⌝ }
-{
-    let header = m.header;
-    let link = e.link;
-    if link.up {
-        return take_up(m, e);
-    }
-    Taken {
-        end: e,
+        end: End { own: own, ..next },
         due: false,
         shown: Shown::Frame(header),
     }
@@ -181,10 +172,14 @@ fn take(m: Heard, e: End) -> Taken
 pub fn take_due(m: Heard, e: End) -> Taken
     ensures { λ r. ⌜ r ≡ takenWhole m e ⌝ }
 {
-    let t = take(m, e);
-    let next = t.end;
+    let header = m.header;
+    let link = e.link;
+    if link.up {
+        return take_up(m, e);
+    }
     Taken {
-        end: note(e, t.due, next),
-        ..t
+        end: note(e, false, e),
+        due: false,
+        shown: Shown::Frame(header),
     }
 }

@@ -1,3 +1,4 @@
 pub mod Decoding
+pub mod Judging
 pub mod Stepping
 pub mod FlagLaws

@@ -1,7 +1,7 @@
 -- What the answer to a frame says, by the frame's octets: one of the numbers 1 to 8, or the header that stands there and
 -- exactly the parts that a caller meets who takes the steps of the body from its start.
 use Prim.Native.Nat.{ℕ, _≤_}
-use mathlib.Core.Path.{_≡_, refl, sym, ap, subst}
+use mathlib.Core.Path.{_≡_, refl, ap, subst}
 use mathlib.Core.List.{List, _∷_}
 use mathlib.Core.Bool.{Bool, true, false, not, _||_}
 use native.Mathlib.Omega.{arith}
@@ -17,7 +17,7 @@ use Rattle.frame.specs.Frame.{Body, Message, codeOf, Answer, refused, ac
 use Rattle.frame.specs.Steps.{Stepped}
 use Rattle.tlvs.proofs.Walks.{by-cond}
 
--- a number that the reader gives
+-- the number of a frame's refusal
 abbrev Given : ℕ → Type 0
 Given n = (1 ≤ n) × (n ≤ 8)
 

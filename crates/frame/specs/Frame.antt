@@ -1,18 +1,21 @@
--- Frames: the message that a frame says, or the number of its refusal, and what the reader shows of either.
+-- Frames: the message that a frame says, or the number of its refusal, and what is taken from the octets of either.
 use Prim.Native.Nat.{ℕ}
 use mathlib.Core.List.{List}
-use mathlib.Core.Bool.{Bool, true, false, not, cond, _||_}
+use mathlib.Core.Bool.{false, not, cond, _||_}
 use lib.ListN.{length, getD, drop}
 use lib.Dec.{ltb, eqb}
 use Rattle.tlvs.specs.Octets.{num}
 use Rattle.tlvs.specs.Walk.{Parsed, refused as unread, parts, listed}
-use Rattle.body.specs.Information.{InformationPart, informationWalk, informationParts, nothing, keepAll}
+use Rattle.body.specs.Information.{InformationPart, informationWalk, informationParts, localIn}
+use Rattle.body.specs.Judging.{localPlace}
 use Rattle.tlvs.specs.Events.{eventWalk}
 use Rattle.body.specs.Variables.{Container, descriptorWalk, containerWalk}
 use Rattle.tlvs.specs.declared.Event.{Event}
+use Rattle.body.specs.declared.Held.{Held}
+use Rattle.body.specs.declared.Held.the-variants.{Nothing}
 use Rattle.frame.specs.declared.Header.{Header}
-use Rattle.frame.specs.declared.Reading.{Reading}
-use Rattle.frame.specs.declared.Reading.the-variants.{Refused, Information, Notification, Request, Response, Loopback, Organization}
+use Rattle.frame.specs.declared.Judgement.{Judgement}
+use Rattle.frame.specs.declared.Judgement.the-variants.{Refused, Accepted}
 
 -- "Codes: 00 Information, 01 Event Notification, 02 Variable Request, 03 Variable Response, 04 Loopback Control, FE
 -- organization specific." A body with its parts in order.
@@ -77,16 +80,62 @@ bodyAnswer f code =
 unfoldable pub decode : List ℕ → Answer
 decode f = cond (eqb (headerAnswer f) 0) (bodyAnswer f (getD f 17 0)) (refused (headerAnswer f))
 
--- What the reader shows of a message: its header and the body's fixed numbers (event number, command, OUI); of an Information
--- body its Local and Remote TLVs. The parts in order are shown by the steps.
-abbrev pub shown : Header → Body → Reading
-shown h (information ps) = Information h (keepAll nothing ps)
-shown h (notification n es) = Notification h n
-shown h (request ds) = Request h
-shown h (response cs) = Response h
-shown h (loopback n) = Loopback h n
-shown h (organization oui x) = Organization h oui
+-- Where the Local TLV stands in the octets of a body; their length where it has none.
+abbrev pub placeIn : List ℕ → Body → ℕ
+placeIn s (information ps) = localPlace s
+placeIn s (notification n es) = length s
+placeIn s (request ds) = length s
+placeIn s (response cs) = length s
+placeIn s (loopback n) = length s
+placeIn s (organization oui x) = length s
 
-abbrev pub readingOf : Answer → Reading
-readingOf (refused n) = Refused n
-readingOf (accepted m) = shown (record { source = m .source; flags = m .flags; code = codeOf (m .body) }) (m .body)
+-- what a frame comes to: its answer, and where the Local TLV stands in its body
+abbrev pub judgement : List ℕ → Answer → Judgement
+judgement f (refused n) = Refused n
+judgement f (accepted m) = Accepted (placeIn (drop 18 f) (m .body))
+
+unfoldable pub judgementOf : List ℕ → Judgement
+judgementOf f = judgement f (decode f)
+
+-- ---- What a message says at fixed octets, and the octets themselves. That they agree is shown in proofs/Judging.antt.
+
+abbrev pub headerIn : Message → Header
+headerIn m = record { source = m .source; flags = m .flags; code = codeOf (m .body) }
+
+-- zeros where a frame is shorter than any that is accepted
+unfoldable pub headerOf : List ℕ → Header
+headerOf f =
+    cond (ltb (length f) 60) (record { source = 0; flags = 0; code = 0 })
+    (record { source = num 6 f 6; flags = num 2 f 15; code = getD f 17 0 })
+
+-- the number of a notification and the command of a Loopback Control frame
+unfoldable pub eventNumber : List ℕ → ℕ
+eventNumber f = cond (ltb (length f) 60) 0 (num 2 f 18)
+
+unfoldable pub commandOf : List ℕ → ℕ
+commandOf f = cond (ltb (length f) 60) 0 (getD f 18 0)
+
+-- the number at the start of a body: the event number, the command or the OUI
+abbrev pub numberIn : Body → ℕ
+numberIn (information ps) = 0
+numberIn (notification n es) = n
+numberIn (request ds) = 0
+numberIn (response cs) = 0
+numberIn (loopback n) = n
+numberIn (organization oui x) = oui
+
+unfoldable pub fixedNumber : List ℕ → ℕ
+fixedNumber f =
+    cond (ltb (length f) 60) 0
+    (cond (eqb (getD f 17 0) 1) (num 2 f 18)
+    (cond (eqb (getD f 17 0) 4) (getD f 18 0)
+    (cond (eqb (getD f 17 0) 0xfe) (num 3 f 18)
+    0)))
+
+abbrev pub localOf : Body → Held
+localOf (information ps) = localIn ps
+localOf (notification n es) = Nothing
+localOf (request ds) = Nothing
+localOf (response cs) = Nothing
+localOf (loopback n) = Nothing
+localOf (organization oui x) = Nothing

@@ -2,37 +2,41 @@
 use Prim.Native.Nat.{ℕ}
 use mathlib.Core.List.{List}
 use mathlib.Core.Bool.{Bool, cond}
-use lib.ListN.{getD, drop}
+use lib.ListN.{length, getD, drop}
 use lib.Dec.{eqb}
-use Rattle.tlvs.specs.Octets.{num}
 use Rattle.body.specs.Lists.{wholeList}
-use Rattle.body.specs.declared.Gathered.{Gathered}
-use Rattle.body.specs.declared.Gathered.the-variants.{Refused as RefusedGathered, Whole}
-use Rattle.frame.specs.declared.Header.{Header}
+use Rattle.body.specs.Judging.{judgedOf}
+use Rattle.body.specs.declared.Judged.{Judged}
+use Rattle.body.specs.declared.Judged.the-variants.{Refused as RefusedBody, Whole}
 use Rattle.body.specs.declared.ListKind.the-variants.{Events, Descriptors, Containers}
-use Rattle.frame.specs.declared.Reading.{Reading}
-use Rattle.frame.specs.declared.Reading.the-variants.{Refused, Information as InformationIs, Notification, Request, Response, Loopback, Organization}
-use Rattle.body.specs.Gathering.{gatheredOf}
+use Rattle.frame.specs.declared.Judgement.{Judgement}
+use Rattle.frame.specs.declared.Judgement.the-variants.{Refused, Accepted}
 
-unfoldable pub headerOf : List ℕ → Header
-headerOf f = record { source = num 6 f 6; flags = num 2 f 15; code = getD f 17 0 }
+abbrev pub listAnswer : Bool → ℕ
+listAnswer whole = cond whole 0 6
 
-abbrev pub gatheredReading : Header → Gathered → Reading
-gatheredReading h (RefusedGathered n) = Refused n
-gatheredReading h (Whole found) = InformationIs h found
+abbrev pub commandAnswer : ℕ → ℕ
+commandAnswer n = cond (eqb n 1) 0 (cond (eqb n 2) 0 8)
 
-abbrev pub listReading : Bool → Reading → Reading
-listReading whole reading = cond whole reading (Refused 6)
+-- the answer to the body of a code other than 00
+unfoldable pub otherAnswer : List ℕ → ℕ → ℕ
+otherAnswer f code =
+    cond (eqb code 1) (listAnswer (wholeList Events (drop 20 f)))
+    (cond (eqb code 2) (listAnswer (wholeList Descriptors (drop 18 f)))
+    (cond (eqb code 3) (listAnswer (wholeList Containers (drop 18 f)))
+    (cond (eqb code 4) (commandAnswer (getD f 18 0))
+    (cond (eqb code 0xfe) 0
+    5))))
 
-abbrev pub loopbackReading : Header → ℕ → Reading
-loopbackReading h n = cond (eqb n 1) (Loopback h n) (cond (eqb n 2) (Loopback h n) (Refused 8))
+-- an answer to a body of some octets that has no Local TLV
+abbrev pub answered : ℕ → ℕ → Judgement
+answered answer octets = cond (eqb answer 0) (Accepted octets) (Refused answer)
 
-unfoldable pub bodyReading : List ℕ → Header → Reading
-bodyReading f h =
-    cond (eqb (h .code) 0) (gatheredReading h (gatheredOf (drop 18 f)))
-    (cond (eqb (h .code) 1) (listReading (wholeList Events (drop 20 f)) (Notification h (num 2 f 18)))
-    (cond (eqb (h .code) 2) (listReading (wholeList Descriptors (drop 18 f)) (Request h))
-    (cond (eqb (h .code) 3) (listReading (wholeList Containers (drop 18 f)) (Response h))
-    (cond (eqb (h .code) 4) (loopbackReading h (getD f 18 0))
-    (cond (eqb (h .code) 0xfe) (Organization h (num 3 f 18))
-    (Refused 5))))))
+abbrev pub informationJudgement : Judged → Judgement
+informationJudgement (RefusedBody n) = Refused n
+informationJudgement (Whole at) = Accepted at
+
+unfoldable pub bodyJudgement : List ℕ → Judgement
+bodyJudgement f =
+    cond (eqb (getD f 17 0) 0) (informationJudgement (judgedOf (drop 18 f)))
+    (answered (otherAnswer f (getD f 17 0)) (length (drop 18 f)))

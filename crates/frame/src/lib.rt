@@ -1,18 +1,23 @@
 // OAM frames of IEEE 802.3ah Clause 57: from octets to what they say.
 //
-// `read` answers for a whole frame. The parts of its body are then taken in order by the steps of `body`, over
-// `body(frame)`, or over `events_body(frame)` for the events of a notification.
+// `judge` answers for a whole frame. Of one that it accepts, `header_of` gives the header, `fixed_number`, `event_number` and
+// `command_of` the number at the body's start, `local_at` of `body` the Local TLV, and the steps of `body` and `tlvs` the parts in
+// order, over `body(frame)`, or over `events_body(frame)` for the events of a notification.
 mod flag_bits;
+mod numbers;
 mod parts;
 mod reader;
 
-use body::Found;
 pub use flag_bits::join_flags;
 pub use flag_bits::split_flags;
+pub use numbers::command_of;
+pub use numbers::event_number;
+pub use numbers::fixed_number;
+pub use numbers::header_of;
 pub use parts::body;
 pub use parts::events_body;
 pub use parts::organization_data;
-pub use reader::read;
+pub use reader::judge;
 
 // What stands before every body: the source address as a number, the flags (all sixteen bits) and the code.
 pub struct Header {
@@ -30,14 +35,9 @@ pub struct Flags {
     pub remote: u16,
 }
 
-// What a frame says: why it is refused, or its header and the body's fixed numbers (event number, command, OUI); of an
-// Information body its Local and Remote TLVs.
-pub enum Reading {
+// What a frame comes to: the number of its refusal, or where the Local TLV stands in its body, the body's length where it has
+// none.
+pub enum Judgement {
     Refused(u8),
-    Information(Header, Found),
-    Notification(Header, u16),
-    Request(Header),
-    Response(Header),
-    Loopback(Header, u8),
-    Organization(Header, u32),
+    Accepted(usize),
 }

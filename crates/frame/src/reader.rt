@@ -1,14 +1,13 @@
-// The reader of a whole frame: answers 1 to 5 in order, then the body in octet order.
+// The judge of a whole frame: answers 1 to 5 in order, then the body in octet order. No number is taken out of it.
 ghost use mathlib.Core.Path.{_≡_};
 ghost use Prim.Native.Nat.{_≤_};
 ghost use lib.ListN.{length};
-ghost use Rattle.frame.specs.Frame.{headerAnswer, decode, readingOf};
-ghost use Rattle.frame.specs.Reader.{headerOf, bodyReading, gatheredReading, listReading, loopbackReading};
-use crate::Header;
-use crate::Reading;
+ghost use Rattle.frame.specs.Frame.{headerAnswer, judgementOf};
+ghost use Rattle.frame.specs.Reader.{listAnswer, commandAnswer, otherAnswer, answered, informationJudgement, bodyJudgement};
+use crate::Judgement;
 use crate::parts::body;
 use crate::parts::events_body;
-use body::Gathered;
+use body::Judged;
 use body::ListKind;
 
 // The tests 1 to 4 in order: the number of the first that fails, or 0.
@@ -21,8 +20,11 @@ fn header_answer(frame: &[u8]) -> u8
     if frame.len() > 1514 {
         return 1;
     }
-    let destination = tlvs::join_six(frame[0], frame[1], frame[2], frame[3], frame[4], frame[5]);
-    if destination != 0x0180c2000002 {
+    // the destination, as four octets and two: 01-80-C2-00-00-02
+    if tlvs::join_four(frame[0], frame[1], frame[2], frame[3]) != 0x0180c200 {
+        return 2;
+    }
+    if tlvs::join_two(frame[4], frame[5]) != 2 {
         return 2;
     }
     if tlvs::join_two(frame[12], frame[13]) != 0x8809 {
@@ -34,78 +36,75 @@ fn header_answer(frame: &[u8]) -> u8
     0
 }
 
-fn header_of(frame: &[u8]) -> Header
-    requires { ⌜ 60 ≤ length (now frame) ⌝ }
-    ensures { λ r. ⌜ r ≡ headerOf (now (frame .entry)) ⌝ }
+// 6 for a list that is broken.
+fn list_answer(whole: bool) -> u8
+    ensures { λ r. ⌜ r ≡ listAnswer whole ⌝ }
 {
-    Header {
-        source: tlvs::join_six(frame[6], frame[7], frame[8], frame[9], frame[10], frame[11]),
-        flags: tlvs::join_two(frame[15], frame[16]),
-        code: frame[17],
-    }
+    if whole { 0 } else { 6 }
 }
 
-fn gathered_reading(header: Header, gathered: Gathered) -> Reading
-    ensures { λ r. ⌜ r ≡ gatheredReading header gathered ⌝ }
-{
-    match gathered {
-        Gathered::Refused(answer) => Reading::Refused(answer),
-        Gathered::Whole(found) => Reading::Information(header, found),
-    }
-}
-
-// The reading of a list's frame, or 6 where the list is broken.
-fn list_reading(whole: bool, reading: Reading) -> Reading
-    ensures { λ r. ⌜ r ≡ listReading whole reading ⌝ }
-{
-    if whole { reading } else { Reading::Refused(6) }
-}
-
-fn loopback_reading(header: Header, command: u8) -> Reading
-    ensures { λ r. ⌜ r ≡ loopbackReading header command ⌝ }
+fn command_answer(command: u8) -> u8
+    ensures { λ r. ⌜ r ≡ commandAnswer command ⌝ }
 {
     if command == 1 {
-        return Reading::Loopback(header, command);
+        return 0;
     }
-    if command == 2 {
-        return Reading::Loopback(header, command);
-    }
-    Reading::Refused(8)
+    if command == 2 { 0 } else { 8 }
 }
 
-// The reading by the code.
-fn body_reading(frame: &[u8], header: Header) -> Reading
+// The answer to the body of a code other than 00.
+fn other_answer(frame: &[u8], code: u8) -> u8
     requires { ⌜ 60 ≤ length (now frame) ⌝ }
-    ensures { λ r. ⌜ r ≡ bodyReading (now (frame .entry)) header ⌝ }
+    ensures { λ r. ⌜ r ≡ otherAnswer (now (frame .entry)) code ⌝ }
 {
-    let code = header.code;
     match code {
-        0 => gathered_reading(header, body::gather(body(frame))),
-        1 => list_reading(
-            body::is_whole(ListKind::Events, events_body(frame)),
-            Reading::Notification(header, tlvs::join_two(frame[18], frame[19])),
-        ),
-        2 => list_reading(
-            body::is_whole(ListKind::Descriptors, body(frame)),
-            Reading::Request(header),
-        ),
-        3 => list_reading(
-            body::is_whole(ListKind::Containers, body(frame)),
-            Reading::Response(header),
-        ),
-        4 => loopback_reading(header, frame[18]),
-        0xfe => Reading::Organization(header, tlvs::join_three(frame[18], frame[19], frame[20])),
-        _ => Reading::Refused(5),
+        1 => list_answer(body::is_whole(ListKind::Events, events_body(frame))),
+        2 => list_answer(body::is_whole(ListKind::Descriptors, body(frame))),
+        3 => list_answer(body::is_whole(ListKind::Containers, body(frame))),
+        4 => command_answer(frame[18]),
+        0xfe => 0,
+        _ => 5,
     }
 }
 
-// What a frame says, or the number of its refusal.
-pub fn read(frame: &[u8]) -> Reading
-    ensures { λ r. ⌜ r ≡ readingOf (decode (now (frame .entry))) ⌝ }
+// An answer to a body of some octets that has no Local TLV.
+fn answered(answer: u8, octets: usize) -> Judgement
+    ensures { λ r. ⌜ r ≡ answered answer octets ⌝ }
+{
+    if answer == 0 {
+        Judgement::Accepted(octets)
+    } else {
+        Judgement::Refused(answer)
+    }
+}
+
+fn information_judgement(judged: Judged) -> Judgement
+    ensures { λ r. ⌜ r ≡ informationJudgement judged ⌝ }
+{
+    match judged {
+        Judged::Refused(answer) => Judgement::Refused(answer),
+        Judged::Whole(at) => Judgement::Accepted(at),
+    }
+}
+
+fn body_judgement(frame: &[u8]) -> Judgement
+    requires { ⌜ 60 ≤ length (now frame) ⌝ }
+    ensures { λ r. ⌜ r ≡ bodyJudgement (now (frame .entry)) ⌝ }
+{
+    let code = frame[17];
+    if code == 0 {
+        return information_judgement(body::judge_information(body(frame)));
+    }
+    answered(other_answer(frame, code), frame.len() - 18)
+}
+
+// The number of a frame's refusal, or that it is accepted, with where its Local TLV stands.
+pub fn judge(frame: &[u8]) -> Judgement
+    ensures { λ r. ⌜ r ≡ judgementOf (now (frame .entry)) ⌝ }
 {
     let answer = header_answer(frame);
     if answer != 0 {
-        return Reading::Refused(answer);
+        return Judgement::Refused(answer);
     }
-    body_reading(frame, header_of(frame))
+    body_judgement(frame)
 }

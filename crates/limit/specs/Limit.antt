@@ -1,6 +1,6 @@
 -- The limit on frames: "ten frames already written in this timer second" is 13.
 use Prim.Native.Nat.{ℕ, _+_}
-use mathlib.Core.Bool.{Bool, true, false, cond, _&&_}
+use mathlib.Core.Bool.{Bool, cond, _&&_}
 use lib.Dec.{ltb, leb}
 use Rattle.limit.specs.declared.Meter.{Meter}
 

@@ -3,7 +3,7 @@ use Prim.Native.Nat.{ℕ}
 use mathlib.Core.List.{List}
 use mathlib.Core.Bool.{cond}
 use lib.ListN.{length}
-use Rattle.frame.specs.Frame.{decode, readingOf}
+use Rattle.frame.specs.Frame.{decode}
 use Rattle.end.specs.declared.End.{End}
 use Rattle.end.specs.declared.Shown.the-variants.{Nothing}
 use Rattle.link.specs.declared.Outcome.{Outcome}
@@ -29,7 +29,7 @@ receivedOutput (Refusal n) e out = out
 receivedOutput (Is m) e out = concludedHeardOutput m e out
 
 unfoldable pub receiveOf : List ℕ → ℕ → End → Outcome
-receiveOf frame octets e = cond (tooShort octets) (outcome e 9 0 Nothing) (received octets (saidBy (readingOf (decode frame))) e)
+receiveOf frame octets e = cond (tooShort octets) (outcome e 9 0 Nothing) (received octets (saidBy (decode frame)) e)
 
 unfoldable pub receiveOutput : List ℕ → End → List ℕ → List ℕ
-receiveOutput frame e out = cond (tooShort (length out)) out (receivedOutput (saidBy (readingOf (decode frame))) e out)
+receiveOutput frame e out = cond (tooShort (length out)) out (receivedOutput (saidBy (decode frame)) e out)

@@ -36,3 +36,7 @@ concluded octets shown e =
 
 unfoldable pub concludedOutput : End → List ℕ → List ℕ
 concludedOutput e out = cond (sends e) (written (informationToSend e) out) out
+
+-- how the code comes to it: the length of the owed frame, 0 where it is not written
+abbrev pub owedLength : ℕ → End → ℕ
+owedLength octets e = cond (sends e) (lengthOf (writes (informationToSend e) octets)) 0

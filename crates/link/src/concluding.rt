@@ -1,7 +1,7 @@
 // How tick, receive and report end: the owed Information frame is written where it may be.
 ghost use mathlib.Core.Path.{_≡_};
 ghost use lib.ListN.{length};
-ghost use Rattle.link.specs.Outcomes.{lengthOf, outcome, tooShort, concluded, concludedOutput};
+ghost use Rattle.link.specs.Outcomes.{lengthOf, outcome, tooShort, concludedOutput, owedLength};
 use crate::Outcome;
 use end::End;
 use end::Shown;
@@ -36,14 +36,15 @@ pub(crate) fn is_short(octets: usize) -> bool
     octets < 60
 }
 
-// The end of a tick, a receive or a report: the owed Information frame is written where it may be.
-pub(crate) fn conclude(e: End, shown: Shown, out: &mut [u8]) -> Outcome
-    ensures { λ r. ⌜ (r ≡ concluded (length (now (out .entry))) shown e) × (now (out .exit) ≡ concludedOutput e (now (out .entry))) ⌝ }
+// Writes the owed Information frame where it may be written, and gives its length; 0 where it is not. How tick, receive and
+// report end: the end itself is `end::after_sending`.
+pub(crate) fn write_owed(e: End, out: &mut [u8]) -> usize
+    ensures { λ r. ⌜ (r ≡ owedLength (length (now (out .entry))) e) × (now (out .exit) ≡ concludedOutput e (now (out .entry))) ⌝ }
 {
     if end::is_sending(e) {
         let settings = e.settings();
         let written = writer::write_information(settings.source, end::flags(e), end::tlvs(e), out);
-        return outcome(end::pay(e), 0, length_of(written), shown);
+        return length_of(written);
     }
-    outcome(e, 0, 0, shown)
+    0
 }

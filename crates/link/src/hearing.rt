@@ -3,9 +3,9 @@ ghost use mathlib.Core.Path.{_≡_};
 ghost use lib.ListN.{length};
 ghost use Rattle.link.specs.Hearing.{concludedHeard, concludedHeardOutput, receiveOf, receiveOutput};
 use crate::Outcome;
-use crate::concluding::conclude;
 use crate::concluding::is_short;
 use crate::concluding::outcome;
+use crate::concluding::write_owed;
 use end::End;
 use end::Heard;
 use end::Said;
@@ -17,7 +17,8 @@ fn conclude_heard(m: Heard, e: End, out: &mut [u8]) -> Outcome
     let t = end::take_due(m, e);
     let next = t.end;
     let shown = t.shown;
-    conclude(next, shown, out)
+    let length = write_owed(next, out);
+    outcome(end::after_sending(next), 0, length, shown)
 }
 
 // One received frame.

@@ -3,9 +3,9 @@ ghost use mathlib.Core.Path.{_≡_};
 ghost use lib.ListN.{length};
 ghost use Rattle.link.specs.Reports.{reportOf, reportOutput};
 use crate::Outcome;
-use crate::concluding::conclude;
 use crate::concluding::is_short;
 use crate::concluding::outcome;
+use crate::concluding::write_owed;
 use end::End;
 use end::Report;
 use end::Shown;
@@ -17,5 +17,7 @@ pub fn take_report(e: End, report: Report, out: &mut [u8]) -> Outcome
     if is_short(out.len()) {
         return outcome(e, 9, 0, Shown::Nothing);
     }
-    conclude(end::report_due(e, report), Shown::Nothing, out)
+    let next = end::report_due(e, report);
+    let length = write_owed(next, out);
+    outcome(end::after_sending(next), 0, length, Shown::Nothing)
 }

@@ -3,9 +3,9 @@ ghost use mathlib.Core.Path.{_≡_};
 ghost use lib.ListN.{length};
 ghost use Rattle.link.specs.Ticks.{tickOf, tickOutput};
 use crate::Outcome;
-use crate::concluding::conclude;
 use crate::concluding::is_short;
 use crate::concluding::outcome;
+use crate::concluding::write_owed;
 use end::End;
 use end::Shown;
 
@@ -16,5 +16,7 @@ pub fn tick(e: End, out: &mut [u8]) -> Outcome
     if is_short(out.len()) {
         return outcome(e, 9, 0, Shown::Nothing);
     }
-    conclude(end::turn_due(e), Shown::Nothing, out)
+    let next = end::turn_due(e);
+    let length = write_owed(next, out);
+    outcome(end::after_sending(next), 0, length, Shown::Nothing)
 }

@@ -6,7 +6,7 @@ use mathlib.Core.Path.{_≡_, refl, sym, ap, _∙_}
 use mathlib.Core.List.{List, [], _++_, append-assoc}
 use native.Mathlib.Nat.{add-zero}
 use native.Mathlib.Omega.{arith}
-use lib.ListN.{length, take, drop, length-drop}
+use lib.ListN.{length, take, drop}
 use lib.Seq.{sets, sets-eq, length-take-le, take-at, drop-at, drop-drop, drop-append-le}
 use Rattle.text.specs.Pieces.{Outcome, fedFrom, Run, called}
 use Rattle.text.proofs.Pieces.{further, counted-from, taken-within}

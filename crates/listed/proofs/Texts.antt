@@ -1,7 +1,7 @@
 -- A line that is taken a character at a time comes to the entry of its text, with a working frame of any length.
 -- Assumes nothing.
 use Prim.Native.Nat.{ℕ, _+_, _*_, min, _≤_, _<_}
-use mathlib.Core.Path.{_≡_, refl, sym, ap, _∙_}
+use mathlib.Core.Path.{_≡_, refl, ap, _∙_}
 use mathlib.Core.Bool.{Bool, true, false, cond, _&&_}
 use mathlib.Core.List.{List, [], _∷_}
 use native.Mathlib.Nat.{mod-eq-of-lt}
@@ -13,7 +13,6 @@ use lib.ListN.{length, take, set}
 use lib.Seq.{sets, sets-eq, take-at}
 use Rattle.text.proofs.Bounds.{by-bound}
 use Rattle.frame.specs.Frame.{decode}
-use Rattle.listing.specs.declared.line.Line.{Line}
 use Rattle.listing.specs.declared.line.Line.the-variants.{Whole, Foreign}
 use Rattle.listing.specs.declared.line.Decoded.the-variants.{Length}
 use Rattle.listing.specs.declared.row.Entry.{Entry}

@@ -1,26 +1,24 @@
--- What the reader shows of an answer gives the answer's entry; a frame of more than 1,514 octets is answered 1.
+-- The entry of a frame that is judged, from its octets; a frame of more than 1,514 octets is answered 1.
 -- Assumes nothing.
 use Prim.Native.Nat.{ℕ, _<_}
 use mathlib.Core.List.{List}
 use native.Mathlib.Omega.{arith}
 use borrow.Author.Tests.{lt-ltb, le-ltb}
 use lib.ListN.{length}
-use mathlib.Core.Path.{_≡_, refl}
-use Rattle.frame.specs.Frame.{Answer, refused, accepted, Message, Body, information, notification, request, response, loopback, organization, readingOf, shown, codeOf, headerAnswer, decode}
-use Rattle.listing.specs.Rows.{entryOf, entryShown}
+use mathlib.Core.Path.{_≡_}
+use Rattle.frame.specs.Frame.{refused, headerAnswer, decode, judgementOf, headerOf}
+use Rattle.frame.specs.declared.Judgement.the-variants.{Refused as JudgedRefused, Accepted as JudgedAccepted}
+use Rattle.frame.proofs.Judging.{judged-refused, judged-accepted}
+use Rattle.listing.specs.Rows.{entryOf}
+use Rattle.listing.specs.declared.row.Entry.the-variants.{Accepted, Refused}
 
--- the same of each body
-by-body : (m : Message) (b : Body) → entryShown (shown (record { source = m .source; flags = m .flags; code = codeOf b }) b) ≡ entryOf (accepted (record { source = m .source; flags = m .flags; body = b }))
-by-body m (information ps) = refl
-by-body m (notification n es) = refl
-by-body m (request ds) = refl
-by-body m (response cs) = refl
-by-body m (loopback n) = refl
-by-body m (organization oui x) = refl
+-- an entry from the octets of a frame that is judged
+module _ (f : List ℕ) where
+  pub entry-refused : (n : ℕ) → judgementOf f ≡ JudgedRefused n → Refused n ≡ entryOf (decode f)
+  entry-refused n j = rw (judged-refused f n j)
 
-pub entry-shown : (a : Answer) → entryShown (readingOf a) ≡ entryOf a
-entry-shown (refused n) = refl
-entry-shown (accepted m) = by-body m (m .body)
+  pub entry-accepted : (at : ℕ) → judgementOf f ≡ JudgedAccepted at → Accepted (headerOf f .code) (headerOf f .flags) ≡ entryOf (decode f)
+  entry-accepted at j = let a = judged-accepted f at j .1 in rw (a .decoded, a .header)
 
 -- "received frame is not 60 to 1,514 octets"
 pub too-long : (f : List ℕ) → 1514 < length f → decode f ≡ refused 1

@@ -1,21 +1,20 @@
 -- The input's end: a line that has begun is fed a newline.
 -- Assumes nothing.
 use Prim.Native.Nat.{ℕ, _-_, _≤_, _<_}
-use mathlib.Core.Path.{_≡_, refl, sym, ap, _∙_}
+use mathlib.Core.Path.{_≡_, refl, ap, _∙_}
 use mathlib.Core.Bool.{Bool, true, false, cond}
 use mathlib.Core.List.{List, [], _∷_}
 use native.Mathlib.Omega.{arith}
 use borrow.Author.Tests.{lt-ltb, le-ltb}
 use lib.Dec.{ltb}
 use lib.ListN.{length}
-use lib.Seq.{sets}
 use Rattle.text.specs.Pieces.{Outcome, takes, fedFrom}
 use Rattle.listing.specs.declared.feeding.Place.{Place}
 use Rattle.listing.specs.declared.feeding.Progress.{Progress}
 use Rattle.listing.specs.declared.feeding.Last.the-variants.{Written, Refused}
 use Rattle.listing.specs.Rows.{newline, rowRoom}
 use Rattle.listing.specs.Taking.{hasBegun}
-use Rattle.listing.specs.Feeding.{State, lister, fed, Feeds, lastRow, lastSaid, Finishes, presentRow}
+use Rattle.listing.specs.Feeding.{State, lister, fed, Feeds, lastRow, lastSaid, Finishes}
 
 -- the place of a piece that is fed first, where nothing waits
 abbrev front : Progress → Place

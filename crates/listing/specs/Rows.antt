@@ -3,8 +3,6 @@
 use Prim.Native.Nat.{ℕ}
 use mathlib.Core.List.{List, [], _∷_, _++_}
 use Rattle.frame.specs.Frame.{Answer, refused, accepted, codeOf}
-use Rattle.frame.specs.declared.Reading.{Reading}
-use Rattle.frame.specs.declared.Reading.the-variants.{Refused as RefusedReading, Information, Notification, Request, Response, Loopback, Organization}
 use Rattle.text.specs.Decimal.{field}
 use Rattle.listing.specs.declared.row.Entry.{Entry}
 use Rattle.listing.specs.declared.row.Entry.the-variants.{Accepted, Refused}
@@ -38,13 +36,3 @@ abbrev pub header : List ℕ
 header =
     110 ∷ 111 ∷ tab ∷ 99 ∷ 111 ∷ 100 ∷ 101 ∷ tab ∷ 102 ∷ 108 ∷ 97 ∷ 103 ∷ 115 ∷ tab
     ∷ 97 ∷ 110 ∷ 115 ∷ 119 ∷ 101 ∷ 114 ∷ newline ∷ []
-
--- how the code comes to an entry: from what the reader shows
-abbrev pub entryShown : Reading → Entry
-entryShown (RefusedReading n) = Refused n
-entryShown (Information h x) = Accepted (h .code) (h .flags)
-entryShown (Notification h x) = Accepted (h .code) (h .flags)
-entryShown (Request h) = Accepted (h .code) (h .flags)
-entryShown (Response h) = Accepted (h .code) (h .flags)
-entryShown (Loopback h x) = Accepted (h .code) (h .flags)
-entryShown (Organization h x) = Accepted (h .code) (h .flags)

@@ -4,8 +4,8 @@ ghost use Prim.Native.Nat.{_+_, _≤_};
 ghost use lib.ListN.{length};
 ghost use Rattle.frame.specs.Frame.{decode};
 ghost use Rattle.text.specs.Put.{Put, Stored};
-ghost use Rattle.listing.specs.Rows.{header, columns, rowOf, rowRoom, entryOf, entryShown};
-use frame::Reading;
+ghost use Rattle.listing.specs.Rows.{header, columns, rowOf, rowRoom, entryOf};
+use frame::Judgement;
 
 // What a row says: the code and the flags of an accepted frame, or the number of a refusal.
 pub enum Entry {
@@ -58,24 +58,15 @@ pub(crate) fn put_row(out: &mut [u8], at: usize, number: u64, entry: Entry) -> u
     }
 }
 
-// What a row says of a reading.
-fn entry_of(reading: Reading) -> Entry
-    ensures { λ r. ⌜ r ≡ entryShown reading ⌝ }
-{
-    match reading {
-        Reading::Refused(answer) => Entry::Refused(answer),
-        Reading::Information(header, _) => Entry::Accepted(header.code, header.flags),
-        Reading::Notification(header, _) => Entry::Accepted(header.code, header.flags),
-        Reading::Request(header) => Entry::Accepted(header.code, header.flags),
-        Reading::Response(header) => Entry::Accepted(header.code, header.flags),
-        Reading::Loopback(header, _) => Entry::Accepted(header.code, header.flags),
-        Reading::Organization(header, _) => Entry::Accepted(header.code, header.flags),
-    }
-}
-
 // What a frame's row says of it.
 pub fn frame_entry(frame: &[u8]) -> Entry
     ensures { λ r. ⌜ r ≡ entryOf (decode (now (frame .entry))) ⌝ }
 {
-    entry_of(frame::read(frame))
+    match frame::judge(frame) {
+        Judgement::Refused(answer) => Entry::Refused(answer),
+        Judgement::Accepted(_) => {
+            let header = frame::header_of(frame);
+            Entry::Accepted(header.code, header.flags)
+        }
+    }
 }

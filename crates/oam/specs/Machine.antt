@@ -3,7 +3,7 @@
 use Prim.Native.Nat.{ℕ}
 use mathlib.Core.Path.{_≡_}
 use mathlib.Core.List.{List, [], _∷_, _++_}
-use mathlib.Core.Bool.{Bool, cond, true, false}
+use mathlib.Core.Bool.{cond, true, false}
 use lib.Dec.{ltb, leb, eqb}
 use lib.ListN.{length}
 use lib.Seq.{sets}
@@ -22,7 +22,7 @@ use Rattle.reach.specs.Machine.{report, receive, outcomeBy, outputBy}
 use Rattle.concluding.specs.Concluding.{steppedNumber, steppedState}
 use Rattle.end.specs.State.{freshOf, discoveryOf}
 use Rattle.packing.specs.Numbers.{numbersOf}
-use Rattle.packing.specs.Octets.{packedIn, unpacked}
+use Rattle.packing.specs.Octets.{stateLength, packedIn}
 use Rattle.showing.specs.Showing.{Shown, shows, roomy}
 use Rattle.showing.specs.Reading.{headerShown}
 
@@ -53,9 +53,9 @@ abbrev pub settingsOf : (configuration size oui vendor source required : ℕ) �
 settingsOf configuration size oui vendor source required =
     record { configuration = configuration; size = size; oui = oui; vendor = vendor; source = source; required = required }
 
--- "settings or request values out of range" is 10, and so is a state that has not 48 octets
+-- "settings or request values out of range" is 10, and so is a state of another length
 unfoldable pub freshFor : Settings → List ℕ → FreshEnd
-freshFor s state = cond (eqb (length state) 48) (freshOf s) (Refused 10)
+freshFor s state = cond (eqb (length state) stateLength) (freshOf s) (Refused 10)
 
 abbrev pub freshAnswer : FreshEnd → ℕ
 freshAnswer (Refused n) = n

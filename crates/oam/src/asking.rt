@@ -1,4 +1,4 @@
-// The entries of the five requests, on an end that is kept in 48 octets that the caller lends.
+// The entries of the five requests, on an end that is kept in octets that the caller lends.
 ghost use lib.ListN.{length};
 ghost use Rattle.reach.specs.Machine.{start, stop, variables, notify, tell, request as requesting, outcomeBy, outputBy};
 ghost use Rattle.packing.specs.Octets.{unpacked};

@@ -3,9 +3,9 @@
 // An entry takes numbers and lent slices and trusts none of them. A slice is two arguments to its caller, where it begins and
 // how many elements it has. An entry that writes answers an outcome: one number, the paper's answer in its low 8 bits, 0
 // where it is accepted, and the length that was written above them, of which nothing is cut off (`proofs/Lengths.antt`). A
-// refusal leaves every lent slice as it was. What an entry reads is shown as numbers in a lent slice (the crate `showing`).
+// refusal leaves every lent slice as it was. What an entry reads is shown as numbers in lent slices (the crate `showing`).
 //
-// An end of the link is kept in 48 octets that the caller lends to each call (the crate `packing`). The outcome of a call has
+// An end of the link is kept in octets that the caller lends to each call (the crate `packing`). The outcome of a call has
 // the State octet after it in bits 40 to 47, and what is shown in bits 48 and 49.
 mod asking;
 mod lending;
@@ -27,8 +27,8 @@ pub use machine::oam_receive;
 pub use machine::oam_report;
 pub use machine::oam_show;
 pub use machine::oam_tick;
-pub use reading::oam_part;
 pub use reading::oam_read;
+pub use reading::oam_read_all;
 pub use writing::oam_write_information;
 pub use writing::oam_write_loopback;
 pub use writing::oam_write_notification;

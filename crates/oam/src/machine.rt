@@ -1,4 +1,4 @@
-// The entries that make an end, step it and show it. An end is kept in 48 octets that the caller lends: an entry unpacks it,
+// The entries that make an end, step it and show it. An end is kept in octets that the caller lends: an entry unpacks it,
 // takes the call, and stores the end after it. Octets that no end is packed to are 10, and nothing is touched.
 ghost use mathlib.Core.Path.{_≡_};
 ghost use Prim.Native.Nat.{_≤_};
@@ -17,7 +17,7 @@ use peer::Settings;
 use showing::show;
 use showing::show_header;
 
-// Makes a fresh end by its settings: 0, or 10 for settings out of range and for a state that has not 48 octets.
+// Makes a fresh end by its settings: 0, or 10 for settings out of range and for a state of another length.
 #[no_mangle]
 pub extern "C" fn oam_fresh(
     configuration: u8,
@@ -30,7 +30,7 @@ pub extern "C" fn oam_fresh(
 ) -> u64
     ensures { λ r. ⌜ Freshly (freshFor (settingsOf configuration size oui vendor source required) (now (state .entry))) (now (state .entry)) r (now (state .exit)) ⌝ }
 {
-    if state.len() != 48 {
+    if state.len() != packing::STATE_LENGTH {
         return 10;
     }
     let settings = Settings {

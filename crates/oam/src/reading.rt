@@ -1,8 +1,7 @@
-// The entries that read a frame. What they show is stored as numbers in a slice that the caller lends.
+// The entries that read a frame. What they show is stored as numbers in slices that the caller lends.
 ghost use lib.ListN.{length};
 ghost use Rattle.showing.specs.Showing.{Showing};
-ghost use Rattle.showing.specs.Reading.{frameShown};
-ghost use Rattle.showing.specs.Parts.{partShown};
+ghost use Rattle.showing.specs.Reading.{frameShown, allShown, ShowingAll};
 
 // Reads a frame (`showing::read`).
 #[no_mangle]
@@ -12,10 +11,15 @@ pub extern "C" fn oam_read(frame: &[u8], header: &mut [u64]) -> u64
     showing::read(frame, header)
 }
 
-// Shows what stands at an octet of a frame, and answers its kind (`showing::part`).
+// Reads a frame with its parts (`showing::read_all`).
 #[no_mangle]
-pub extern "C" fn oam_part(frame: &[u8], at: usize, part: &mut [u64]) -> u64
-    ensures { λ r. ⌜ Showing (partShown (now (frame .entry)) at (length (now (part .entry)))) (now (part .entry)) r (now (part .exit)) ⌝ }
+pub extern "C" fn oam_read_all(
+    frame: &[u8],
+    first: usize,
+    header: &mut [u64],
+    rows: &mut [u64],
+) -> u64
+    ensures { λ r. ⌜ ShowingAll (allShown (now (frame .entry)) first (length (now (header .entry))) (length (now (rows .entry)))) (now (header .entry)) (now (rows .entry)) r (now (header .exit)) (now (rows .exit)) ⌝ }
 {
-    showing::part(frame, at, part)
+    showing::read_all(frame, first, header, rows)
 }

@@ -1,84 +1,152 @@
 -- The octets of an end that keeps to its ranges are unpacked to it, and no other octets are.
-use Prim.Native.Nat.{ℕ, _+_, _≤_}
-use mathlib.Core.Path.{_≡_, refl, sym, _∙_}
+use Prim.Native.Nat.{ℕ}
+use mathlib.Core.Path.{_≡_, refl, sym, ap, _∙_}
 use mathlib.Core.List.{List, [], append-nil}
 use mathlib.Core.Bool.{true}
 use native.Mathlib.Omega.{arith}
 use borrow.Author.Tests.{eqb-true, eq-eqb}
 use lib.Dec.{eqb}
-use lib.ListN.{length, drop-of-length-le}
-use lib.Seq.{sets, sets-eq}
-use Rattle.tlvs.specs.Octets.{Octets, total}
+use lib.ListN.{length, getD}
+use Rattle.tlvs.specs.Octets.{Octets}
 use Rattle.tlvs.proofs.Walks.{by-cond}
-use Rattle.writer.specs.Octets.{octs}
-use Rattle.writer.proofs.Lengths.{length-octs}
-use Rattle.writer.proofs.Numbers.{fields-read, fields-again}
+use Rattle.writer.proofs.Bools.{and-l, and-r}
 use Rattle.end.specs.declared.End.{End}
 use Rattle.end.specs.declared.FreshEnd.{FreshEnd}
-use Rattle.end.specs.declared.FreshEnd.the-variants.{Is}
-use Rattle.end.specs.Ranges.{ranged}
-use Rattle.packing.specs.Numbers.{numbersOf, numberWidths, endFrom}
-use Rattle.packing.proofs.Numbering.{numbers-fit, numbers-back, numbers-only}
-use Rattle.packing.proofs.Widths.{widths-long, widths-total}
-use Rattle.packing.specs.Octets.{packed, packedPart, packedIn, numbersIn, unpacked}
+use Rattle.end.specs.declared.FreshEnd.the-variants.{Refused, Is}
+use Rattle.end.specs.Ranges.{tests, ranged, checked}
+use Rattle.end.proofs.Ranging.{all-at}
+use Rattle.packing.specs.Parts.{partsAt, storedAt}
+use Rattle.packing.specs.Settings.{settingsOctets}
+use Rattle.packing.specs.Meter.{meterOctets}
+use Rattle.packing.specs.Link.{linkOctets, isLink}
+use Rattle.packing.specs.Peers.{peerOctets, isPeer}
+use Rattle.packing.specs.Roles.{roleOctets, isRole}
+use Rattle.packing.specs.Own.{ownOctets, isOwn}
+use Rattle.packing.specs.Numbers.{numbersOf}
+use Rattle.packing.specs.Octets.{partLengths, stateLength, endParts, packed, packedIn, part, isState, endOf, unpacked}
+use Rattle.packing.proofs.Parting.{lengths, stored-whole, parts-read, parts-again, parts-octets}
+use Rattle.packing.proofs.SettingsLaws.{settings-back, settings-again}
+use Rattle.packing.proofs.LinkLaws.{link-back, link-is, link-again}
+use Rattle.packing.proofs.PeerLaws.{peer-back, peer-is, peer-again}
+use Rattle.packing.proofs.RoleLaws.{role-back, role-again}
+use Rattle.packing.proofs.MeterLaws.{meter-back, meter-again}
+use Rattle.packing.proofs.OwnLaws.{own-back, own-is, own-again}
 
-packed-long : (e : End) → length (packed e) ≡ 48
-unfolding packed numbersOf
-packed-long e = length-octs numberWidths (numbersOf e) (omega (arith, widths-long)) ∙ widths-total
+-- ---- what is packed
 
--- stored over the whole of a state
-stored-whole : (state x : List ℕ) → length state ≡ length x → sets state 0 x ≡ x
-stored-whole state x h =
-    let none : length state ≤ 0 + length x = omega (arith, h) in
-    sets-eq x state 0 (omega (arith, h)) ∙ rw (drop-of-length-le state none) (append-nil x)
+-- every part has its length
+pub parts-long : (e : End) → lengths (endParts e) ≡ partLengths
+unfolding settingsOctets linkOctets peerOctets roleOctets meterOctets ownOctets
+parts-long e = refl
 
--- a state in which each part is stored after the one before
-pub parts-whole : (e : End) (s0 s1 s2 s3 settings peer own : List ℕ) → length s0 ≡ 48
-    → settings ≡ packedPart 0 8 e → peer ≡ packedPart 8 11 e → own ≡ packedPart 19 8 e
-    → s1 ≡ sets s0 0 settings → s2 ≡ sets s1 19 peer → s3 ≡ sets s2 38 own
-    → s3 ≡ packed e
-unfolding packed numbersOf numberWidths
-parts-whole e s0 s1 s2 s3 settings peer own h a b c p q r =
-    rw (r, q, p, a, b, c) (stored-whole s0 (packed e) (h ∙ sym (packed-long e)))
+pub packed-long : (e : End) → length (packed e) ≡ stateLength
+unfolding packed settingsOctets linkOctets peerOctets roleOctets meterOctets ownOctets
+packed-long e = refl
+
+-- what `pack` stores
+pub parts-stored : (e : End) (s : List ℕ) → length s ≡ stateLength → storedAt partLengths (endParts e) s 0 ≡ packed e
+unfolding packed
+parts-stored e s h =
+    ap (λ (ns : List ℕ). storedAt ns (endParts e) s 0) (sym (parts-long e)) ∙ stored-whole (endParts e) s (h ∙ sym (packed-long e))
+
+-- each part stands in its place
+part-packed : (e : End) (k : ℕ) → part k (packed e) ≡ getD (endParts e) k []
+unfolding packed
+part-packed e k =
+    ap (λ (ns : List ℕ). getD (partsAt ns (packed e) 0) k []) (sym (parts-long e))
+    ∙ ap (λ (xs : List (List ℕ)). getD xs k []) (parts-read (endParts e) (packed e) 0 [] (sym (append-nil (packed e))))
+
+packed-is : (e : End) → isState (packed e) ≡ true
+unfolding isState
+packed-is e =
+    let at = part-packed e in
+    rw (at 1, at 2, at 3, at 5, link-is (e .link), peer-is (e .peer), role-back (e .role) .1, own-is (e .own))
+
+packed-back : (e : End) → ranged e ≡ true → endOf (packed e) ≡ e
+unfolding endOf ranged
+packed-back e h =
+    let at = part-packed e in
+    let test : (n : ℕ) → _ = λ n. all-at (tests e) n h in
+    rw (at 0, at 1, at 2, at 3, at 4, at 5)
+    (rw (
+      settings-back (e .settings) (test 0) (test 1),
+      link-back (e .link) (test 2),
+      peer-back (e .peer) (test 3) (test 4) (test 5),
+      role-back (e .role) .0,
+      meter-back (e .meter) (test 10),
+      own-back (e .own) (test 11) (test 12),
+    ))
+
+-- ---- what is unpacked
+
+packed-again : (state : List ℕ) → Octets state → length state ≡ stateLength → isState state ≡ true → packed (endOf state) ≡ state
+unfolding packed endOf isState
+packed-again state o l h =
+    let link : isLink (part 1 state) ≡ true = search and-l in
+    let peer : isPeer (part 2 state) ≡ true = search (and-l, and-r) in
+    let role : isRole (part 3 state) ≡ true = search (and-l, and-r) in
+    let own : isOwn (part 5 state) ≡ true = search (and-l, and-r) in
+    let at : (k : ℕ) → _ = parts-octets partLengths state 0 o (omega (arith, l)) in
+    rw (
+      settings-again (part 0 state) (at 0 .0) (at 0 .1),
+      link-again (part 1 state) (at 1 .0) (at 1 .1) link,
+      peer-again (part 2 state) (at 2 .0) (at 2 .1) peer,
+      role-again (part 3 state) (at 3 .0) (at 3 .1) role,
+      meter-again (part 4 state) (at 4 .0) (at 4 .1),
+      own-again (part 5 state) (at 5 .0) (at 5 .1) own,
+    )
+    (parts-again partLengths state l)
 
 -- ---- the two laws
 
-pub numbers-long : (e : End) → length (numbersOf e) ≡ 27
-unfolding numbersOf
-numbers-long e = refl
+-- a state holds the end that is unpacked, which keeps to its ranges
+pub record Unpacked (state : List ℕ) (e : End) : Type 0 where
+  pub long : length state ≡ stateLength
+  pub is : isState state ≡ true
+  pub held : endOf state ≡ e
+  pub ranges : ranged e ≡ true
+
+-- the end that is there
+abbrev endIn : End → FreshEnd → End
+endIn e (Refused n) = e
+endIn e (Is x) = x
+
+unpacked-is : (state : List ℕ) (e : End) → unpacked state ≡ Is e → Unpacked state e
+unfolding unpacked checked
+unpacked-is state e =
+    let P : FreshEnd → Type 0 = λ (f : FreshEnd). f ≡ Is e → Unpacked state e in
+    let never : Refused 10 ≡ Is e → Unpacked state e = λ k. let z : _≡_ {A = ℕ} 0 1 = cc in absurd (omega arith) in
+    let x = endOf state in
+    by-cond P (eqb (length state) stateLength)
+    (λ long. by-cond P (isState state)
+    (λ is. by-cond P (ranged x)
+    (λ r k. let held : x ≡ e = ap (endIn e) k in record { long = eqb-true (length state) stateLength long; is = is; held = held; ranges = rw (← held) r })
+    (λ _. never))
+    (λ _. never))
+    (λ _. never)
 
 pub unpacked-packed : (e : End) → ranged e ≡ true → unpacked (packed e) ≡ Is e
-unfolding packed unpacked
-unpacked-packed e h =
-    let octets = octs numberWidths (numbersOf e) in
-    let back : numbersIn octets ≡ numbersOf e =
-    fields-read numberWidths (numbersOf e) octets 0 [] (widths-long ∙ sym (numbers-long e)) (numbers-fit e h) (sym (append-nil octets)) in
-    rw (eq-eqb (length octets) 48 (packed-long e), back) (numbers-back e h)
-
--- octets that are unpacked are 48, and hold the numbers of the end
-unpacked-is : (state : List ℕ) (e : End) → unpacked state ≡ Is e → (length state ≡ 48) × (endFrom (numbersIn state) ≡ Is e)
-unfolding unpacked
-unpacked-is state e h =
-    by-cond (λ (f : FreshEnd). f ≡ Is e → (length state ≡ 48) × (endFrom (numbersIn state) ≡ Is e)) (eqb (length state) 48)
-    (λ t k. (eqb-true (length state) 48 t, k))
-    (λ _ k. let z : _≡_ {A = ℕ} 0 1 = cc in absurd (omega arith))
-    h
+unfolding unpacked checked
+unpacked-packed e h = rw (eq-eqb (length (packed e)) stateLength (packed-long e), packed-is e, packed-back e h, h)
 
 pub packed-unpacked : (state : List ℕ) (e : End) → Octets state → unpacked state ≡ Is e → packed e ≡ state
-unfolding packed
 packed-unpacked state e o h =
     let u = unpacked-is state e h in
-    let again = fields-again state o numberWidths 0 (omega (arith, u .0, widths-total)) in
-    let none : length state ≤ 0 + total numberWidths = omega (arith, u .0, widths-total) in
-    rw (numbers-only state e (u .1) .1) (sym (again ∙ rw (drop-of-length-le state none) (append-nil (octs numberWidths (numbersIn state)))))
+    rw (← (u .held)) (packed-again state o (u .long) (u .is))
 
 -- ---- from call to call
 
 -- an end that is unpacked keeps to its ranges
 pub unpacked-ranged : (state : List ℕ) (e : End) → unpacked state ≡ Is e → ranged e ≡ true
-unpacked-ranged state e h = numbers-only state e (unpacked-is state e h .1) .0
+unpacked-ranged state e h = unpacked-is state e h .ranges
 
 -- and one that does so, stored in the place of another, is unpacked again
 pub stored-unpacked : (state : List ℕ) (before e : End) → unpacked state ≡ Is before → ranged e ≡ true → unpacked (packedIn e state) ≡ Is e
 unfolding packedIn
-stored-unpacked state before e h r = rw (eq-eqb (length state) 48 (unpacked-is state before h .0)) (unpacked-packed e r)
+stored-unpacked state before e h r = rw (eq-eqb (length state) stateLength (unpacked-is state before h .long)) (unpacked-packed e r)
+
+-- ---- the numbers of an end
+
+pub numbers-long : (e : End) → length (numbersOf e) ≡ 27
+unfolding numbersOf
+numbers-long e = refl

@@ -1,45 +1,36 @@
-// An end as 27 numbers.
+// An end as 27 numbers, those of its parts one after another.
 ghost use mathlib.Core.Path.{_≡_};
-ghost use Rattle.tlvs.specs.Octets.{bitOf};
-ghost use Rattle.packing.specs.Numbers.{known, lastNumber, numbersOf};
+ghost use mathlib.Core.List.{[], _∷_};
+ghost use Rattle.packing.specs.Parts.{together};
+ghost use Rattle.packing.specs.Settings.{settingsNumbers};
+ghost use Rattle.packing.specs.Link.{linkNumbers};
+ghost use Rattle.packing.specs.Peers.{peerNumbers};
+ghost use Rattle.packing.specs.Roles.{roleNumbers};
+ghost use Rattle.packing.specs.Meter.{meterNumbers};
+ghost use Rattle.packing.specs.Own.{ownNumbers};
+ghost use Rattle.packing.specs.Numbers.{numbersOf};
+use crate::octets::digit;
+use crate::peers::is_known;
+use crate::peers::last_number;
 use end::End;
-use end::Last;
+use end::Link;
+use end::Own;
+use end::Peer;
+use limit::Meter;
+use loopback::Role;
+use peer::Settings;
 
-pub(crate) fn digit(on: bool) -> u8
-    ensures { λ r. ⌜ r ≡ bitOf on ⌝ }
+// All in one array: an array for each part would be read again number by number.
+fn join_numbers(
+    settings: Settings,
+    link: Link,
+    peer: Peer,
+    role: Role,
+    meter: Meter,
+    own: Own,
+) -> [u64; 27]
+    ensures { λ r. ⌜ r ≡ together (settingsNumbers settings ∷ linkNumbers link ∷ peerNumbers peer ∷ roleNumbers role ∷ meterNumbers meter ∷ ownNumbers own ∷ []) ⌝ }
 {
-    if on { 1 } else { 0 }
-}
-
-pub(crate) fn is_known(last: Last) -> bool
-    ensures { λ r. ⌜ r ≡ known last ⌝ }
-{
-    match last {
-        Last::Never => false,
-        Last::Number(_) => true,
-    }
-}
-
-// The last event number, 0 where none is held.
-pub(crate) fn last_number(last: Last) -> u16
-    ensures { λ r. ⌜ r ≡ lastNumber last ⌝ }
-{
-    match last {
-        Last::Never => 0,
-        Last::Number(n) => n,
-    }
-}
-
-// An end as numbers: settings, link, peer, role, meter, own.
-pub fn numbers_of(e: End) -> [u64; 27]
-    ensures { λ r. ⌜ r ≡ numbersOf e ⌝ }
-{
-    let settings = e.settings();
-    let link = e.link();
-    let peer = e.peer();
-    let role = e.role();
-    let meter = e.meter();
-    let own = e.own();
     let held = peer.held;
     let last = peer.last;
     let i = peer::told(held);
@@ -72,4 +63,17 @@ pub fn numbers_of(e: End) -> [u64; 27]
         digit(own.critical) as u64,
         digit(own.owed) as u64,
     ]
+}
+
+pub fn numbers_of(e: End) -> [u64; 27]
+    ensures { λ r. ⌜ r ≡ numbersOf e ⌝ }
+{
+    join_numbers(
+        e.settings(),
+        e.link(),
+        e.peer(),
+        e.role(),
+        e.meter(),
+        e.own(),
+    )
 }

@@ -21,11 +21,11 @@ use Rattle.end.specs.Reporting.{linkUp, linkDown, reported}
 use Rattle.end.specs.Taking.{learned, acted, taken}
 use Rattle.end.specs.Ranges.{never as unheard, blank}
 use Rattle.reach.specs.Machine.{Request, start, stop, variables, notify, tell, Input, askedOf}
-use Rattle.reach.proofs.Coming.{heardIn}
 use Rattle.reach.proofs.Keeping.{by-taken}
 use Rattle.reach.proofs.Standing.{Stands}
 use Rattle.pair.specs.Safe.{quietAfter}
 use Rattle.reach.proofs.Effects.{Becomes, ticks, reports, hears, asks, Hears}
+use Rattle.end.specs.Hearing.{heardOf}
 
 -- ---- the kept field
 
@@ -52,10 +52,10 @@ module _ (e : End) where
   reported-two (CriticalEvent on) = λ h. h
 
   -- "kept field from the flags"
-  taken-two : (m : Message) → Two (taken (heardIn m) e .end) → Two e ⊎ SaysComplete m
+  taken-two : (m : Message) → Two (taken (heardOf m) e .end) → Two e ⊎ SaysComplete m
   unfolding learned settled acted keptFrom
   taken-two m =
-      by-taken (heardIn m) e (λ (x : End). Two x → Two e ⊎ SaysComplete m) (λ _ h. inl h) (λ _ _. from-flags) (λ _ _ _. from-flags)
+      by-taken (heardOf m) e (λ (x : End). Two x → Two e ⊎ SaysComplete m) (λ _ h. inl h) (λ _ _. from-flags) (λ _ _ _. from-flags)
     where
       from-flags : keptFrom (m .flags) (e .peer .kept) ≡ 2 → Two e ⊎ SaysComplete m
       from-flags =
@@ -106,9 +106,9 @@ module _ (e : End) (s : Stands e) (n : ℕ) (l : Lost n e) where
   reported-lost (CriticalEvent on) = l
 
   -- "lost-link count to 0"
-  taken-lost : (m : Message) → Lost 0 (taken (heardIn m) e .end)
+  taken-lost : (m : Message) → Lost 0 (taken (heardOf m) e .end)
   unfolding learned settled acted
-  taken-lost m = by-taken (heardIn m) e (Lost 0) (λ d h. down-unheld d h) (λ _ _ _. refl) (λ _ _ _ _. refl)
+  taken-lost m = by-taken (heardOf m) e (Lost 0) (λ d h. down-unheld d h) (λ _ _ _. refl) (λ _ _ _ _. refl)
 
   asked-lost : (q : Request) → Lost n (askedOf q e .next)
   asked-lost start = l

@@ -2,7 +2,6 @@
 -- every run of one end, and in `archive` of its octets, holds of both.
 use mathlib.Core.Path.{_≡_, refl, ap}
 use mathlib.Core.List.{List, [], _∷_}
-use mathlib.Core.Bool.{true, false}
 use Prim.Native.Nat.{ℕ}
 use lib.Dec.{eqb}
 use Rattle.tlvs.proofs.Walks.{by-cond}
@@ -10,7 +9,7 @@ use Rattle.peer.specs.declared.Settings.{Settings}
 use Rattle.end.specs.declared.End.{End}
 use Rattle.reach.specs.Machine.{tick, report, receive, request, Call, outcomeOf}
 use Rattle.reach.specs.Runs.{after}
-use Rattle.pair.specs.System.{Side, near, far, other, World, put, momentOf, called, Act, ticks, reports, requests, arrives, Happening, frameAt, delivered, happens, run, begin}
+use Rattle.pair.specs.System.{Side, near, far, other, World, put, called, Act, ticks, reports, requests, arrives, Happening, frameAt, delivered, happens, run, begin}
 
 module _ (settings : Side → Settings) where
   abbrev Reached : World → Type 0

@@ -6,14 +6,11 @@ use mathlib.Core.List.{List, [], _∷_, _++_}
 use mathlib.Core.Bool.{true, false}
 use lib.ListN.{length, replicate}
 use Rattle.tlvs.specs.Octets.{bitOf}
-use Rattle.frame.specs.Frame.{decode, readingOf}
+use Rattle.frame.specs.Frame.{Answer, refused, accepted, loopback, decode}
 use Rattle.body.specs.Variables.{containerStep}
 use Rattle.body.specs.declared.ContainerStep.{ContainerStep}
 use Rattle.body.specs.declared.ContainerStep.the-variants.{Value, Indication}
 use Rattle.body.specs.declared.Held.the-variants.{Is}
-use Rattle.frame.specs.declared.Header.{Header}
-use Rattle.frame.specs.declared.Reading.{Reading}
-use Rattle.frame.specs.declared.Reading.the-variants.{Refused, Loopback}
 use Rattle.loopback.specs.declared.Role.the-variants.{Idle}
 use Rattle.end.specs.declared.End.{End}
 use Rattle.end.specs.declared.Last.the-variants.{Never}
@@ -21,9 +18,9 @@ use Rattle.link.specs.declared.Outcome.{Outcome}
 use Rattle.end.specs.Ranges.{blank}
 use Rattle.reach.specs.Machine.{Input, tick, request, start, outcomeOf}
 
--- what an example shows: a frame's reading, what stands at an octet of a list of containers, or a number
+-- what an example shows: the answer to a frame, what stands at an octet of a list of containers, or a number
 pub data Seen : Type 0 where
-  reading : Reading → Seen
+  answer : Answer → Seen
   container : ContainerStep → Seen
   number : ℕ → Seen
 
@@ -37,11 +34,11 @@ frame code body octets =
 
 -- what is read of it
 abbrev reads : List ℕ → Seen
-reads f = reading (readingOf (decode f))
+reads f = answer (decode f)
 
--- the header of such a frame
-abbrev header : ℕ → Header
-header code = record { source = 0x020000000001; flags = 0x50; code = code }
+-- such a frame that is accepted with a loopback command
+abbrev commands : ℕ → Seen
+commands n = answer (accepted (record { source = 0x020000000001; flags = 0x50; body = loopback n }))
 
 -- a TLV of type 01 with so many octets
 abbrev local : ℕ → List ℕ
@@ -100,14 +97,14 @@ found is expected = record { found = found; expected = expected }
 
 abbrev pub rows : List Row
 rows =
-    reads (frame 4 (1 ∷ []) 59) is reading (Refused 1)
-    ∷ reads (frame 4 (1 ∷ []) 60) is reading (Loopback (header 4) 1)
-    ∷ reads (frame 4 (1 ∷ []) 1514) is reading (Loopback (header 4) 1)
-    ∷ reads (frame 4 (1 ∷ []) 1515) is reading (Refused 1)
-    ∷ reads (frame 5 [] 60) is reading (Refused 5)
-    ∷ reads (frame 0 (local 15) 60) is reading (Refused 6)
-    ∷ reads (frame 0 (local 16 ++ local 16) 60) is reading (Refused 7)
-    ∷ reads (frame 4 (0 ∷ []) 60) is reading (Refused 8)
+    reads (frame 4 (1 ∷ []) 59) is answer (refused 1)
+    ∷ reads (frame 4 (1 ∷ []) 60) is commands 1
+    ∷ reads (frame 4 (1 ∷ []) 1514) is commands 1
+    ∷ reads (frame 4 (1 ∷ []) 1515) is answer (refused 1)
+    ∷ reads (frame 5 [] 60) is answer (refused 5)
+    ∷ reads (frame 0 (local 15) 60) is answer (refused 6)
+    ∷ reads (frame 0 (local 16 ++ local 16) 60) is answer (refused 7)
+    ∷ reads (frame 4 (0 ∷ []) 60) is answer (refused 8)
     -- the descriptor, the octets of its value, and where the next container stands; or no value, and the width octet
     ∷ width 0x00 is container (Value 0x070002 128 132)
     ∷ width 0x7f is container (Value 0x070002 127 131)

@@ -1,5 +1,5 @@
 -- Settings that the paper takes.
-use Prim.Native.Nat.{ℕ, _%_, _^_}
+use Prim.Native.Nat.{_%_, _^_}
 use mathlib.Core.Bool.{Bool, _&&_}
 use lib.Dec.{ltb, leb, eqb}
 use Rattle.peer.specs.declared.Settings.{Settings}

@@ -9,7 +9,7 @@ use borrow.Author.Tests.{ltb-true, eqb-true, eqb-false}
 use lib.Dec.{ltb, leb, eqb}
 use Rattle.tlvs.proofs.Walks.{by-cond}
 use Rattle.writer.proofs.Bools.{never, and-l, and-r}
-use Rattle.frame.specs.Frame.{Body, information, notification, request, response, loopback, organization, Message}
+use Rattle.frame.specs.Frame.{Body, information, notification, request, response, loopback, organization, Message, localOf}
 use Rattle.body.specs.declared.Held.{Held}
 use Rattle.body.specs.declared.Held.the-variants.{Nothing, Is}
 use Rattle.peer.specs.Bits.{bit}
@@ -35,11 +35,11 @@ use Rattle.reach.specs.Runs.{after}
 use Rattle.reach.specs.Premises.{Accepted, AllOfOctets}
 use Rattle.reach.specs.Ordering.{Ordered, OrderedIn, now, since}
 use Rattle.reach.proofs.Bools.{not-both, whether}
-use Rattle.reach.proofs.Coming.{localIn, actionIn, heardIn}
 use Rattle.reach.proofs.Ranging.{run-is}
 use Rattle.reach.proofs.Refusing.{refused-end}
 use Rattle.reach.proofs.InSendAny.{is-any, looping-any}
 use Rattle.reach.proofs.Effects.{Face, faceOf, same-discovery, Becomes, ticks, reports, hears, asks, effect-of}
+use Rattle.end.specs.Hearing.{actionOf, heardOf}
 
 abbrev Loops : Role → Type 0
 Loops r = r ≡ Looping
@@ -162,10 +162,10 @@ module _ (source n : ℕ) (x : End) where
 
 -- a body's action
 role-loops : (source : ℕ) (b : Body) (x : End)
-    → Loops (roleAfter (localIn b) (actionIn b) (obeyed source (actionIn b) x) (x .role))
+    → Loops (roleAfter (localOf b) (actionOf b) (obeyed source (actionOf b) x) (x .role))
     → Loops (x .role) ⊎ ((b ≡ loopback 1) × (own source 1 x ≡ true) × (active source 1 x ≡ true) × (takes (x .role) (higher source 1 x) ≡ true))
 unfolding roleAfter obeyed
-role-loops source (information ps) x h = inl (answered-loops (localIn (information ps)) (x .role) h)
+role-loops source (information ps) x h = inl (answered-loops (localOf (information ps)) (x .role) h)
 role-loops source (notification n es) x h = inl h
 role-loops source (request ds) x h = inl h
 role-loops source (response cs) x h = inl h
@@ -174,30 +174,30 @@ role-loops source (organization oui y) x h = inl h
 
 module _ (m : Message) (e : End) where
   abbrev x : End
-  x = learned (heardIn m) e
+  x = learned (heardOf m) e
 
-  acted-loops : inAny x ≡ true → Loops (acted (heardIn m) (obeyed (m .source) (actionIn (m .body)) x) x .role)
-      → Loops (e .role) ⊎ Orders m e (acted (heardIn m) (obeyed (m .source) (actionIn (m .body)) x) x)
+  acted-loops : inAny x ≡ true → Loops (acted (heardOf m) (obeyed (m .source) (actionOf (m .body)) x) x .role)
+      → Loops (e .role) ⊎ Orders m e (acted (heardOf m) (obeyed (m .source) (actionOf (m .body)) x) x)
   unfolding acted discoveryOf learned settled Before
   acted-loops any h =
-      ⊎-elim (λ k. inl (learned-loops e (heardIn m) k))
+      ⊎-elim (λ k. inl (learned-loops e (heardOf m) k))
       (λ k.
       inr
       (record {
         enables = k .0;
         own = k .1;
         peer = k .2;
-        role = subst (λ (r : Role). takes r (ltb (m .source) (e .settings .source)) ≡ true) (learned-role e (heardIn m) any) (k .3);
+        role = subst (λ (r : Role). takes r (ltb (m .source) (e .settings .source)) ≡ true) (learned-role e (heardOf m) any) (k .3);
         any = is-any x any;
       }))
       (role-loops (m .source) (m .body) x h)
 
-  taken-loops : Loops (taken (heardIn m) e .end .role) → Loops (e .role) ⊎ Orders m e (taken (heardIn m) e .end)
+  taken-loops : Loops (taken (heardOf m) e .end .role) → Loops (e .role) ⊎ Orders m e (taken (heardOf m) e .end)
   unfolding taken takenUp Before
   taken-loops =
       by-cond (λ (t : Taken). Loops (t .end .role) → Loops (e .role) ⊎ Orders m e (t .end)) (e .link .up)
       (λ _. by-cond (λ (t : Taken). Loops (t .end .role) → Loops (e .role) ⊎ Orders m e (t .end)) (inAny x) acted-loops
-      (λ _ h. inl (learned-loops e (heardIn m) h)))
+      (λ _ h. inl (learned-loops e (heardOf m) h)))
       (λ _ h. inl h)
 
 -- ---- every call

@@ -9,10 +9,7 @@ use native.Mathlib.Omega.{arith}
 use borrow.Author.Tests.{ltb-false, eqb-true, eqb-false}
 use lib.ListN.{length}
 use lib.Dec.{ltb, leb, eqb}
-use Rattle.body.specs.Information.{nothing, keepAll}
-use Rattle.frame.specs.Frame.{Body, information, notification, request, response, loopback, organization, Message, codeOf, Answer, refused, accepted, decode, readingOf}
-use Rattle.body.specs.declared.Held.{Held}
-use Rattle.body.specs.declared.Held.the-variants.{Nothing as Silent}
+use Rattle.frame.specs.Frame.{Message, Answer, refused, accepted, decode}
 use Rattle.frame.proofs.Stepping.{refused-number}
 use Rattle.writer.specs.Plain.{sized}
 use Rattle.writer.specs.Writing.{writes, written}
@@ -22,10 +19,6 @@ use Rattle.peer.specs.Peers.{peerMaximum}
 use Rattle.end.specs.declared.End.{End}
 use Rattle.end.specs.declared.Report.{Report}
 use Rattle.end.specs.declared.Shown.the-variants.{Nothing}
-use Rattle.end.specs.declared.Action.{Action}
-use Rattle.end.specs.declared.Action.the-variants.{Inform, Notify, Command, Other}
-use Rattle.end.specs.declared.Heard.{Heard}
-use Rattle.end.specs.declared.Said.the-variants.{Is as SaidIs}
 use Rattle.end.specs.declared.Taken.{Taken}
 use Rattle.end.specs.State.{inAny}
 use Rattle.end.specs.Sending.{dues}
@@ -34,7 +27,7 @@ use Rattle.end.specs.Ticking.{ticked, tickedDue}
 use Rattle.link.specs.Ticks.{tickOf, tickOutput}
 use Rattle.end.specs.Reporting.{reported, reportedDue}
 use Rattle.link.specs.Reports.{reportOf, reportOutput}
-use Rattle.end.specs.Hearing.{heardOf, saidBy}
+use Rattle.end.specs.Hearing.{heardOf}
 use Rattle.end.specs.Taking.{taken, takenDue}
 use Rattle.link.specs.Hearing.{concludedHeard, concludedHeardOutput, receiveOf, receiveOutput}
 use Rattle.end.specs.Granting.{answerTo, granted, decided}
@@ -42,44 +35,12 @@ use Rattle.link.specs.Requests.{requestToSend, concludedRequest, concludedReque
 use Rattle.reach.specs.Machine.{Request, Input, tick, report, receive, request as asking, Call, askedOf, outcomeOf, outputOf}
 use Rattle.reach.proofs.Bools.{whether}
 
--- ---- what is heard of a message
-
-abbrev pub localIn : Body → Held
-localIn (information ps) = keepAll nothing ps .local
-localIn (notification n es) = Silent
-localIn (request ds) = Silent
-localIn (response cs) = Silent
-localIn (loopback n) = Silent
-localIn (organization oui x) = Silent
-
-abbrev pub actionIn : Body → Action
-actionIn (information ps) = Inform
-actionIn (notification n es) = Notify n
-actionIn (request ds) = Other
-actionIn (response cs) = Other
-actionIn (loopback n) = Command n
-actionIn (organization oui x) = Other
-
-abbrev pub heardIn : Message → Heard
-heardIn m =
-    heardOf (record { source = m .source; flags = m .flags; code = codeOf (m .body) }) (localIn (m .body)) (actionIn (m .body))
-
-pub said-is : (source flags : ℕ) (b : Body)
-    → saidBy (readingOf (accepted (record { source = source; flags = flags; body = b })))
-    ≡ SaidIs (heardIn (record { source = source; flags = flags; body = b }))
-said-is source flags (information ps) = refl
-said-is source flags (notification n es) = refl
-said-is source flags (request ds) = refl
-said-is source flags (response cs) = refl
-said-is source flags (loopback n) = refl
-said-is source flags (organization oui x) = refl
-
 -- ---- what a tick, a report or an accepted frame makes of an end, before what is owed is noted
 
 pub data Made (e : End) : Input → Taken → Type 0 where
   ticks : Made e tick (record { end = ticked e; due = closing (e .meter); shown = Nothing })
   reports : (r : Report) → Made e (report r) (record { end = reported r e; due = false; shown = Nothing })
-  hears : (f : List ℕ) (m : Message) → decode f ≡ accepted m → Made e (receive f) (taken (heardIn m) e)
+  hears : (f : List ℕ) (m : Message) → decode f ≡ accepted m → Made e (receive f) (taken (heardOf m) e)
 
 -- the end then: the revision, and what is owed
 abbrev pub noted : End → Taken → End
@@ -163,9 +124,8 @@ module _ (out : List ℕ) (e : End) where
           let some = refused-number f k d in
           refuses (record { number = k; some = λ z. omega arith; known = omega arith; outcome = rw (n, d); output = rw (n, d) })
       by-answer n (accepted m) d =
-          let s = said-is (m .source) (m .flags) (m .body) in
           concludes
-          (record { made = _; how = hears f m d; room = ltb-false (length out) 60 n; outcome = rw (n, d, s); output = rw (n, d, s) })
+          (record { made = _; how = hears f m d; room = ltb-false (length out) 60 n; outcome = rw (n, d); output = rw (n, d) })
 
   comes-request : (q : Request) → Comes (lent (asking q)) e
   unfolding asks asksOutput concludedRequest concludedRequestOutput decided

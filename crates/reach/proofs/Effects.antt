@@ -20,9 +20,10 @@ use Rattle.end.specs.Reporting.{reported}
 use Rattle.end.specs.Taking.{taken}
 use Rattle.end.specs.Granting.{granted}
 use Rattle.reach.specs.Machine.{Request, Input, tick, report, receive, request, Call, askedOf, outcomeOf}
-use Rattle.reach.proofs.Coming.{heardIn, Made, ticks as made-ticks, reports as made-reports, hears as made-hears, noted, Comes, refuses, concludes, grants, comes}
+use Rattle.reach.proofs.Coming.{Made, ticks as made-ticks, reports as made-reports, hears as made-hears, noted, Comes, refuses, concludes, grants, comes}
 use Rattle.reach.proofs.Passing.{passes-grant}
 use Rattle.reach.proofs.Losing.{Footing, footingOf, standing, stands-on}
+use Rattle.end.specs.Hearing.{heardOf}
 
 -- what is seen of an end: all but its meter and what it keeps for sending
 pub record Face : Type 0 where
@@ -40,7 +41,7 @@ same-discovery x y h = stands-on x ∙ ap (λ (f : Face). standing (f .footing))
 pub data Becomes (e : End) : Input → End → Type 0 where
   ticks : Becomes e tick (ticked e)
   reports : (r : Report) → Becomes e (report r) (reported r e)
-  hears : (f : List ℕ) (m : Message) → decode f ≡ accepted m → Becomes e (receive f) (taken (heardIn m) e .end)
+  hears : (f : List ℕ) (m : Message) → decode f ≡ accepted m → Becomes e (receive f) (taken (heardOf m) e .end)
   asks : (q : Request) → inAny e ≡ true → askedOf q e .permitted ≡ true → Becomes e (request q) (askedOf q e .next)
 
 -- a frame was received, of which a message is read that says something

@@ -9,7 +9,7 @@ use borrow.Author.Tests.{eqb-true}
 use lib.Dec.{eqb}
 use Rattle.tlvs.specs.Octets.{Octets}
 use Rattle.tlvs.proofs.Walks.{by-cond}
-use Rattle.frame.specs.Frame.{Answer, refused, accepted, decode, readingOf}
+use Rattle.frame.specs.Frame.{Answer, refused, accepted, decode}
 use Rattle.peer.specs.Ranges.{sound}
 use Rattle.peer.specs.declared.Settings.{Settings}
 use Rattle.loopback.specs.Loopback.{mayStart, mayStop}
@@ -21,15 +21,15 @@ use Rattle.end.specs.declared.Heard.{Heard}
 use Rattle.end.specs.declared.Said.{Said}
 use Rattle.end.specs.declared.Said.the-variants.{Refusal, Is as SaidIs}
 use Rattle.end.specs.State.{freshOf}
-use Rattle.end.specs.Sending.{sent}
+use Rattle.end.specs.Sending.{sends, sent, afterSending}
 use Rattle.end.specs.Ticking.{tickedDue}
 use Rattle.end.specs.Reporting.{reportedDue}
-use Rattle.end.specs.Hearing.{saidBy}
+use Rattle.end.specs.Hearing.{saidBy, heardOf}
 use Rattle.end.specs.Taking.{takenDue, takenWhole}
 use Rattle.end.specs.Granting.{answerTo, granted, decided, grantedStart, grantedStop, grantedFrame, grantedNumber}
 use Rattle.end.specs.Ranges.{ranged, checked}
 use Rattle.reach.specs.Machine.{Request, start, stop, notify, tell, tick, report, receive, askedOf}
-use Rattle.reach.proofs.Coming.{heardIn, said-is, ticks, reports, hears}
+use Rattle.reach.proofs.Coming.{ticks, reports, hears}
 use Rattle.reach.proofs.Standing.{Ranged, ranged-is, is-ranged, fresh-ranged}
 use Rattle.reach.proofs.Keeping.{octets-fit}
 use Rattle.reach.proofs.Passing.{passes}
@@ -73,7 +73,7 @@ module _ (e : End) (h : ranged e ≡ true) where
   report-due-guarded r = is-ranged (reportedDue r e) (noted-ranged e (report r) _ (reports r) tt known)
 
   -- `take_due`, for what `hear` gives of a frame of octets: nothing else gives what is heard
-  pub take-due-guarded : (f : List ℕ) → Octets f → (m : Heard) → saidBy (readingOf (decode f)) ≡ SaidIs m
+  pub take-due-guarded : (f : List ℕ) → Octets f → (m : Heard) → saidBy (decode f) ≡ SaidIs m
       → ranged (takenWhole m e .end) ≡ true
   unfolding takenWhole takenDue
   take-due-guarded f o m s = by-answer (decode f) refl
@@ -84,16 +84,16 @@ module _ (e : End) (h : ranged e ≡ true) where
 
       by-answer : (a : Answer) → decode f ≡ a → ranged (takenWhole m e .end) ≡ true
       by-answer (refused k) d =
-          let r : saidBy (readingOf (refused k)) ≡ SaidIs m = ap (λ (a : Answer). saidBy (readingOf a)) (sym d) ∙ s in
+          let r : saidBy (refused k) ≡ SaidIs m = ap saidBy (sym d) ∙ s in
           let z : _≡_ {A = ℕ} 0 1 = cc in
           absurd (omega arith)
       by-answer (accepted x) d =
-          let r : saidBy (readingOf (accepted x)) ≡ SaidIs m = ap (λ (a : Answer). saidBy (readingOf a)) (sym d) ∙ s in
-          let is : heardIn x ≡ m = ap heardSaid (sym (said-is (x .source) (x .flags) (x .body)) ∙ r) in
-          rw (← is) (is-ranged (takenWhole (heardIn x) e .end) (noted-ranged e (receive f) _ (hears f x d) (octets-fit (receive f) o) known))
+          let r : saidBy (accepted x) ≡ SaidIs m = ap saidBy (sym d) ∙ s in
+          let is : heardOf x ≡ m = ap heardSaid r in
+          rw (← is) (is-ranged (takenWhole (heardOf x) e .end) (noted-ranged e (receive f) _ (hears f x d) (octets-fit (receive f) o) known))
 
-  pub pay-guarded : ranged (sent e) ≡ true
-  pay-guarded = is-ranged (sent e) (sent-ranged e known)
+  pub after-sending-guarded : ranged (afterSending e) ≡ true
+  after-sending-guarded = by-cond (λ (x : End). ranged x ≡ true) (sends e) (λ _. is-ranged (sent e) (sent-ranged e known)) (λ _. h)
 
   -- a request that is decided as the machine's are, and makes of the end what one of those makes
   decided-guarded : (q : Request) (octets : ℕ) (permitted : Bool) (lent : ℕ)

@@ -6,9 +6,8 @@ use mathlib.Core.Bool.{true, _||_, or-true}
 use native.Mathlib.Omega.{arith}
 use borrow.Author.Tests.{eqb-false, ltb-true, lt-ltb}
 use lib.Dec.{ltb, eqb}
-use Rattle.body.specs.Information.{InformationPart, local, remote, keepAll, nothing}
-use Rattle.frame.specs.Frame.{Body, information, notification, request, response, loopback, organization, Message, accepted, decode}
-use Rattle.body.specs.declared.Found.{Found}
+use Rattle.body.specs.Information.{InformationPart, local, remote, localIn}
+use Rattle.frame.specs.Frame.{Body, information, notification, request, response, loopback, organization, Message, accepted, decode, localOf}
 use Rattle.body.specs.declared.Held.{Held}
 use Rattle.body.specs.declared.Held.the-variants.{Nothing, Is}
 use Rattle.tlvs.specs.Octets.{Octets}
@@ -24,7 +23,7 @@ use Rattle.end.specs.declared.Action.{Action}
 use Rattle.end.specs.declared.Action.the-variants.{Inform, Notify, Command, Other}
 use Rattle.end.specs.Taking.{lastAfter}
 use Rattle.end.specs.Ranges.{heldFits, lastFits, never, besides}
-use Rattle.reach.proofs.Coming.{localIn, actionIn}
+use Rattle.end.specs.Hearing.{actionOf}
 
 -- the number of a notification is one of two octets
 abbrev pub Numbered : Action → Type 0
@@ -34,22 +33,19 @@ Numbered (Command c) = Unit {0}
 Numbered Other = Unit {0}
 
 -- a Local TLV among parts that fit
-local-fits : (found : Found) (ps : List InformationPart) → heldFits (found .local) ≡ true → every fitPart ps ≡ true
-    → heldFits (keepAll found ps .local) ≡ true
+local-fits : (ps : List InformationPart) → every fitPart ps ≡ true → heldFits (localIn ps) ≡ true
 unfolding heldFits
-local-fits found [] h a = h
-local-fits found (local i ∷ ps) h a =
-    local-fits (record { local = Is i; remote = found .remote }) ps (and-l (fitPart (local i)) (every fitPart ps) a) (and-r (fitPart (local i)) (every fitPart ps) a)
-local-fits found (remote i ∷ ps) h a =
-    local-fits (record { local = found .local; remote = Is i }) ps h (and-r (fitPart (remote i)) (every fitPart ps) a)
+local-fits [] a = refl
+local-fits (local i ∷ ps) a = and-l (fitPart (local i)) (every fitPart ps) a
+local-fits (remote i ∷ ps) a = local-fits ps (and-r (fitPart (remote i)) (every fitPart ps) a)
 
 pub record HeardFits (b : Body) : Type 0 where
-  pub local : heldFits (localIn b) ≡ true
-  pub number : Numbered (actionIn b)
+  pub local : heldFits (localOf b) ≡ true
+  pub number : Numbered (actionOf b)
 
 body-heard : (b : Body) → FitsBody b → HeardFits b
 unfolding heldFits
-body-heard (information ps) h = record { local = local-fits nothing ps refl h; number = tt }
+body-heard (information ps) h = record { local = local-fits ps h; number = tt }
 body-heard (notification n es) h = record { local = refl; number = h .0 }
 body-heard (request ds) h = record { local = refl; number = tt }
 body-heard (response cs) h = record { local = refl; number = tt }
@@ -59,7 +55,7 @@ body-heard (organization oui x) h = record { local = refl; number = tt }
 -- of a body in plain form
 pub plain-heard : (b : Body) → plainBody b ≡ true → HeardFits b
 unfolding heldFits
-plain-heard (information ps) h = record { local = local-fits nothing ps refl (plain-parts ps h .fits); number = tt }
+plain-heard (information ps) h = record { local = local-fits ps (plain-parts ps h .fits); number = tt }
 plain-heard (notification n es) h =
     let small : ltb n (256 ^ 2) ≡ true = search and-l in
     record { local = refl; number = ltb-true n (256 ^ 2) small }

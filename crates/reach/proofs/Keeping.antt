@@ -5,7 +5,7 @@ use mathlib.Core.Bool.{Bool, true, false, cond, or-true}
 use native.Mathlib.Omega.{arith}
 use borrow.Author.Tests.{leb-false}
 use lib.Dec.{leb}
-use Rattle.frame.specs.Frame.{Message, accepted, decode}
+use Rattle.frame.specs.Frame.{Message, accepted, decode, localOf}
 use Rattle.tlvs.proofs.Walks.{by-cond}
 use Rattle.discovery.specs.Standing.{isAny, roleIn}
 use Rattle.limit.specs.Limit.{closing, turnedMeter}
@@ -29,9 +29,10 @@ use Rattle.end.specs.Ranges.{heldFits, lastFits, never, idle, blank}
 use Rattle.reach.specs.Machine.{Input, tick, report, receive, request}
 use Rattle.reach.specs.Premises.{OfOctets}
 use Rattle.reach.proofs.Bools.{not-both, whether}
-use Rattle.reach.proofs.Coming.{localIn, actionIn, heardIn, Made, ticks, reports, hears}
+use Rattle.reach.proofs.Coming.{Made, ticks, reports, hears}
 use Rattle.reach.proofs.Standing.{Fitting, Bounded, relinked, remetered, Stands, Rests}
 use Rattle.reach.proofs.Hearing.{HeardFits, heard-fits, kept-fits, record-fits, record-beside, last-fits}
+use Rattle.end.specs.Hearing.{actionOf, heardOf}
 
 -- ---- the moves
 
@@ -130,42 +131,42 @@ by-taken m e P down learns acts =
     down
 
 module _ (m : Message) (h : HeardFits (m .body)) (e : End) (s : Stands e) where
-  learned-stands : e .link .up ≡ true → Stands (learned (heardIn m) e)
+  learned-stands : e .link .up ≡ true → Stands (learned (heardOf m) e)
   unfolding learned settled
   learned-stands up =
       relinked s (omega arith)
       (record {
         kept = kept-fits (m .flags) (e .peer .kept) (s .peer .kept);
-        held = record-fits (localIn (m .body)) (e .peer .held) (h .local) (s .peer .held);
+        held = record-fits (localOf (m .body)) (e .peer .held) (h .local) (s .peer .held);
         last = s .peer .last;
-        beside = record-beside (localIn (m .body)) (e .peer) (s .peer .beside);
+        beside = record-beside (localOf (m .body)) (e .peer) (s .peer .beside);
       })
       (λ z. not-both up z)
 
-  acted-stands : (b : Bool) (x : End) → x .link .up ≡ true → inAny x ≡ true → Stands x → Stands (acted (heardIn m) b x)
+  acted-stands : (b : Bool) (x : End) → x .link .up ≡ true → inAny x ≡ true → Stands x → Stands (acted (heardOf m) b x)
   unfolding acted
   acted-stands b x up any t =
       relinked t (t .lost)
       (record {
         kept = t .peer .kept;
         held = t .peer .held;
-        last = last-fits (actionIn (m .body)) (x .peer .last) (h .number) (t .peer .last);
-        beside = rw (any-held x any) (or-true (never (lastAfter (actionIn (m .body)) (x .peer .last))));
+        last = last-fits (actionOf (m .body)) (x .peer .last) (h .number) (t .peer .last);
+        beside = rw (any-held x any) (or-true (never (lastAfter (actionOf (m .body)) (x .peer .last))));
       })
       (λ z. not-both up z)
 
-  learned-up : (learned (heardIn m) e) .link .up ≡ e .link .up
+  learned-up : (learned (heardOf m) e) .link .up ≡ e .link .up
   unfolding learned settled
   learned-up = refl
 
-  taken-stands : Stands (taken (heardIn m) e .end)
+  taken-stands : Stands (taken (heardOf m) e .end)
   taken-stands =
-      by-taken (heardIn m) e Stands (λ _. s) (λ up _. learned-stands up)
-      (λ up any b. acted-stands b (learned (heardIn m) e) (learned-up ∙ up) any (learned-stands up))
+      by-taken (heardOf m) e Stands (λ _. s) (λ up _. learned-stands up)
+      (λ up any b. acted-stands b (learned (heardOf m) e) (learned-up ∙ up) any (learned-stands up))
 
-taken-rests : (m : Message) (e : End) → Rests e → Rests (taken (heardIn m) e .end)
+taken-rests : (m : Message) (e : End) → Rests e → Rests (taken (heardOf m) e .end)
 unfolding learned acted inAny discoveryOf
-taken-rests m e h = by-taken (heardIn m) e Rests (λ _. h) (λ _ n _. settled-rests _ n) (λ _ t _ n. not-both t n)
+taken-rests m e h = by-taken (heardOf m) e Rests (λ _. h) (λ _ n _. settled-rests _ n) (λ _ t _ n. not-both t n)
 
 -- ---- what is made of an end by any of them
 

@@ -27,8 +27,9 @@ use Rattle.end.specs.Taking.{learned, obeysCommand, obeyed, roleAfter, acted, t
 use Rattle.end.specs.Ticking.{missed, ticked}
 use Rattle.end.specs.Reporting.{linkUp, linkDown, reported}
 use Rattle.reach.specs.Machine.{Input, Request, start, stop, variables, notify, tell, askedOf}
-use Rattle.reach.proofs.Coming.{Made, ticks, reports, hears, heardIn}
+use Rattle.reach.proofs.Coming.{Made, ticks, reports, hears}
 use Rattle.reach.proofs.Standing.{Fits}
+use Rattle.end.specs.Hearing.{heardOf}
 
 -- ---- the role alone, by a configuration
 
@@ -129,7 +130,7 @@ taken-fits m e h =
 pub made-fits : (e : End) (i : Input) (t : Taken) → Made e i t → Fits e → Fits (t .end)
 made-fits e i t ticks h = ticked-fits e h
 made-fits e i t (reports r) h = reported-fits r e h
-made-fits e i t (hears f m d) h = taken-fits (heardIn m) e h
+made-fits e i t (hears f m d) h = taken-fits (heardOf m) e h
 
 pub asked-fits : (q : Request) (e : End) → askedOf q e .permitted ≡ true → Fits e → Fits (askedOf q e .next)
 unfolding mayStart mayStop

@@ -1,4 +1,6 @@
 -- What the proofs of several functions use, and what follows from the promises.
 pub mod Untouched
 pub mod Moving
+pub mod Stored
 pub mod Taking
+pub mod ReadAll

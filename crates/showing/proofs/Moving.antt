@@ -50,7 +50,7 @@ module _ {P : Type 0} (k : ℕ) (whole body : ℕ → Next P) (same : (at : ℕ)
   walk-moved (suc steps) at = rw (same at) (onward steps (λ n. walk-moved steps n) (body at))
 
 -- a case for each answer of a test
-by-test : {A : Type 0} (b : Bool) → (b ≡ true → A) → (b ≡ false → A) → A
+pub by-test : {A : Type 0} (b : Bool) → (b ≡ true → A) → (b ≡ false → A) → A
 by-test true f g = f refl
 by-test false f g = g refl
 

@@ -1,6 +1,7 @@
 -- What the promises of showing cite.
 pub mod Showing
-pub mod Reading
 pub mod Parts
+pub mod Reading
+pub mod Storing
 pub mod Lines
 pub mod Taking

@@ -1,63 +1,81 @@
--- What is shown of the parts of a frame's body: 1 the end, 2 something broken, 3 something to be skipped, else the part's kind;
--- and as numbers the octet after it, then what the part says.
-use Prim.Native.Nat.{ℕ, _-_}
-use mathlib.Core.List.{List, [], _∷_}
-use Rattle.body.specs.Information.{informationStep}
-use Rattle.tlvs.specs.Events.{eventStep}
-use Rattle.body.specs.Variables.{descriptorStep, containerStep}
-use Rattle.frame.specs.Frame.{decode, readingOf}
-use Rattle.frame.specs.declared.Reading.{Reading}
-use Rattle.frame.specs.declared.Reading.the-variants.{Refused, Information, Notification, Request, Response, Loopback, Organization}
-use Rattle.body.specs.declared.InformationStep.{InformationStep}
-use Rattle.body.specs.declared.InformationStep.the-variants.{End as InformationEnd, Broken as InformationBroken, Skip as InformationSkip, Local, Remote}
-use Rattle.tlvs.specs.declared.EventStep.{EventStep}
-use Rattle.tlvs.specs.declared.EventStep.the-variants.{End as EventEnd, Broken as EventBroken, Skip as EventSkip, Has as HasEvent}
-use Rattle.body.specs.declared.DescriptorStep.{DescriptorStep}
-use Rattle.body.specs.declared.DescriptorStep.the-variants.{End as DescriptorEnd, Broken as DescriptorBroken, Has as HasDescriptor}
-use Rattle.body.specs.declared.ContainerStep.{ContainerStep}
-use Rattle.body.specs.declared.ContainerStep.the-variants.{End as ContainerEnd, Broken as ContainerBroken, Value, Indication}
+-- The parts of a frame's body as rows of numbers: the part's kind, the octet after it, and what the part says.
+use Prim.Native.Nat.{ℕ, _-_, _/_}
+use mathlib.Core.List.{List, [], _∷_, _++_, map, flatten}
+use lib.ListN.{length, take, drop, replicate}
+use Rattle.tlvs.specs.Walk.{Next, stop, broken, skip, has, walk, met}
+use Rattle.tlvs.specs.Events.{eventStep, nextOf as eventNext}
+use Rattle.body.specs.Information.{InformationPart, local, remote, informationStep, nextOf as informationNext}
+use Rattle.body.specs.Variables.{Container, value, indication, descriptorStep, descriptorNext, containerStep, containerNext}
+use Rattle.frame.specs.Frame.{Body, information, notification, request, response, loopback, organization}
+use Rattle.tlvs.specs.declared.Event.{Event}
 use Rattle.writer.specs.Encode.{informationValues, eventValues}
-use Rattle.showing.specs.Showing.{Shown, shows, roomy}
 
--- a Local or a Remote TLV, and its seven fields
-abbrev pub informationShown : InformationStep → Shown
-informationShown InformationEnd = shows 1 []
-informationShown InformationBroken = shows 2 []
-informationShown (InformationSkip next) = shows 3 (next ∷ [])
-informationShown (Local i next) = shows 4 (next ∷ informationValues i)
-informationShown (Remote i next) = shows 5 (next ∷ informationValues i)
+-- a part of a walk, and the octet after it
+pub data Placed (P : Type 0) : Type 0 where
+  before : P → ℕ → Placed P
 
--- an event: its type and its six values
-abbrev pub eventShown : EventStep → Shown
-eventShown EventEnd = shows 1 []
-eventShown EventBroken = shows 2 []
-eventShown (EventSkip next) = shows 3 (next ∷ [])
-eventShown (HasEvent e next) = shows 6 (next ∷ e .kind ∷ eventValues e)
+-- what stands at an octet, its part placed
+abbrev pub placed : {P : Type 0} → Next P → Next (Placed P)
+placed stop = stop
+placed broken = broken
+placed (skip n) = skip n
+placed (has p n) = has (before p n) n
 
--- a descriptor
-abbrev pub descriptorShown : DescriptorStep → Shown
-descriptorShown DescriptorEnd = shows 1 []
-descriptorShown DescriptorBroken = shows 2 []
-descriptorShown (HasDescriptor descriptor next) = shows 7 (next ∷ descriptor ∷ [])
+-- the parts of a frame in order from octet `at` on, each placed
+abbrev pub placedFrom : {P : Type 0} → (ℕ → Next P) → List ℕ → ℕ → List (Placed P)
+placedFrom next f at = met (walk (λ n. placed (next n)) (length f) at)
 
--- a container: its descriptor, then of a value the octet where it starts and its width, of an indication the width octet as
--- received
-abbrev pub containerShown : ContainerStep → Shown
-containerShown ContainerEnd = shows 1 []
-containerShown ContainerBroken = shows 2 []
-containerShown (Value descriptor width next) = shows 8 (next ∷ descriptor ∷ (next - width) ∷ width ∷ [])
-containerShown (Indication descriptor octet next) = shows 9 (next ∷ descriptor ∷ octet ∷ [])
+-- "The TLV walk begins at octet 18, or 20 after a sequence number (2 octets, code 01)."
+abbrev pub informationPlaced : List ℕ → List (Placed InformationPart)
+informationPlaced f = placedFrom (λ at. informationNext (informationStep f at)) f 18
 
--- what stands at octet `at` of a frame by its reading; 0 where the frame is refused or its code has no parts
-abbrev pub partOf : List ℕ → ℕ → Reading → Shown
-partOf f at (Refused answer) = shows 0 []
-partOf f at (Information h found) = informationShown (informationStep f at)
-partOf f at (Notification h number) = eventShown (eventStep f at)
-partOf f at (Request h) = descriptorShown (descriptorStep f at)
-partOf f at (Response h) = containerShown (containerStep f at)
-partOf f at (Loopback h command) = shows 0 []
-partOf f at (Organization h oui) = shows 0 []
+abbrev pub eventsPlaced : List ℕ → List (Placed Event)
+eventsPlaced f = placedFrom (λ at. eventNext (eventStep f at)) f 20
 
--- what is shown of a part where the lent slice has some room
-unfoldable pub partShown : List ℕ → ℕ → ℕ → Shown
-partShown f at room = roomy 10 0 room (partOf f at (readingOf (decode f)))
+abbrev pub descriptorsPlaced : List ℕ → List (Placed ℕ)
+descriptorsPlaced f = placedFrom (λ at. descriptorNext (descriptorStep f at)) f 18
+
+abbrev pub containersPlaced : List ℕ → List (Placed Container)
+containersPlaced f = placedFrom (λ at. containerNext f (containerStep f at)) f 18
+
+-- the numbers of a row
+abbrev pub rowNumbers : ℕ
+rowNumbers = 9
+
+-- a kind, the octet after the part and the part's numbers, then zeros; kinds are numbers from 32 on, so that none looks like a
+-- refusal
+abbrev pub row : ℕ → ℕ → List ℕ → List ℕ
+row kind next numbers = kind ∷ next ∷ (numbers ++ replicate (rowNumbers - 2 - length numbers) 0)
+
+-- 32 a Local, 33 a Remote TLV: its seven fields
+abbrev pub informationRow : Placed InformationPart → List ℕ
+informationRow (before (local i) next) = row 32 next (informationValues i)
+informationRow (before (remote i) next) = row 33 next (informationValues i)
+
+-- 34 an event: its type and its six values
+abbrev pub eventRow : Placed Event → List ℕ
+eventRow (before e next) = row 34 next (e .kind ∷ eventValues e)
+
+-- 35 a descriptor
+abbrev pub descriptorRow : Placed ℕ → List ℕ
+descriptorRow (before descriptor next) = row 35 next (descriptor ∷ [])
+
+-- 36 a container with a value: its descriptor, the octet where the value starts, and its width; 37 one with an indication: its
+-- descriptor and the width octet as received
+abbrev pub containerRow : Placed Container → List ℕ
+containerRow (before (value descriptor octets) next) = row 36 next (descriptor ∷ (next - length octets) ∷ length octets ∷ [])
+containerRow (before (indication descriptor octet) next) = row 37 next (descriptor ∷ octet ∷ [])
+
+-- the rows of a frame by its body: the parts that a body names are those that are placed in its frame (`taken`, proofs/Taking.antt). A
+-- loopback command and organization data are no parts.
+abbrev pub rowsOf : List ℕ → Body → List (List ℕ)
+rowsOf f (information ps) = map informationRow (informationPlaced f)
+rowsOf f (notification n es) = map eventRow (eventsPlaced f)
+rowsOf f (request ds) = map descriptorRow (descriptorsPlaced f)
+rowsOf f (response cs) = map containerRow (containersPlaced f)
+rowsOf f (loopback n) = []
+rowsOf f (organization oui x) = []
+
+-- the numbers of the rows that are stored where there is some room: the first ones passed over, then as many as fit whole
+abbrev pub storedRows : ℕ → ℕ → List (List ℕ) → List ℕ
+storedRows first room rows = flatten (take (room / rowNumbers) (drop first rows))

@@ -1,6 +1,6 @@
 -- Laws of numbers that stand in octets.
 use Prim.Native.Nat.{ℕ, zero, suc, _+_, _*_, _/_, _%_, _^_, _<_, _≤_}
-use mathlib.Core.Path.{_≡_, refl, ap, subst}
+use mathlib.Core.Path.{_≡_, ap, subst}
 use mathlib.Core.List.{List, [], _∷_}
 use mathlib.Core.Bool.{Bool, true, false}
 use native.Mathlib.Omega.{arith}
@@ -8,7 +8,8 @@ use native.Mathlib.Nat.{add-zero, pow-suc, pow-le-pow-right}
 use lib.Bits.{bitAnd, bitOr, and-mask, or-shifted}
 use lib.Pow.{split}
 use lib.ListN.{getD}
-use Rattle.tlvs.specs.Octets.{Octets, num, bitOf}
+use borrow.Author.Tests.{eqb-true, ne-eqb}
+use Rattle.tlvs.specs.Octets.{Octets, num, bitOf, isWord}
 
 -- octets joined are the number that stands in them
 module _ (s : List ℕ) (at : ℕ) where
@@ -29,6 +30,21 @@ module _ (s : List ℕ) (at : ℕ) where
 -- an octet by its place, however that is added up
 pub octet-at : (s : List ℕ) (m n : ℕ) → m ≡ n → getD s m 0 ≡ getD s n 0
 octet-at s m n e = ap (λ (k : ℕ). getD s k 0) e
+
+-- four octets and four more are eight
+pub num-eight : (s : List ℕ) (at : ℕ) → num 4 s at * 4294967296 + num 4 s (at + 4) ≡ num 8 s at
+num-eight s at =
+    omega (
+      arith,
+      octet-at s (at + 4 + 0) (at + 4) (omega arith),
+      octet-at s (at + 4 + 1) (at + 5) (omega arith),
+      octet-at s (at + 4 + 2) (at + 6) (omega arith),
+      octet-at s (at + 4 + 3) (at + 7) (omega arith),
+    )
+
+-- the width of a word that is neither two nor four is eight
+pub word-eight : (width : ℕ) → isWord width ≡ true → (width ≡ 2 → ⊥) → (width ≡ 4 → ⊥) → width ≡ 8
+word-eight width h a b = eqb-true width 8 (rw (ne-eqb width 2 a, ne-eqb width 4 b) at h)
 
 -- what stands in some octets fits them
 pub num-lt : (width : ℕ) (s : List ℕ) (at : ℕ) → Octets s → num width s at < 256 ^ width

@@ -1,17 +1,17 @@
 -- Laws of the table of widths, and of the fields that stand by a row of it.
 use Prim.Native.Nat.{ℕ, zero, suc, _+_, _-_, _<_, _≤_}
-use mathlib.Core.Path.{_≡_, refl}
-use mathlib.Core.List.{List, [], _∷_, _++_, map, append-assoc}
-use mathlib.Core.Bool.{Bool, true, false, _&&_, and-eq-true-iff}
+use mathlib.Core.Path.{_≡_, refl, _∙_}
+use mathlib.Core.List.{List, [], _∷_, map}
+use mathlib.Core.Bool.{Bool, true, _&&_, and-eq-true-iff}
 use native.Mathlib.Omega.{arith}
 use native.Mathlib.Numerals.{add-one}
-use borrow.Author.Tests.{leb-true}
-use lib.Dec.{leb}
-use lib.ListN.{length, getD, take, drop, set}
-use lib.Seq.{drop-cons, take-suc-set}
-use Rattle.tlvs.specs.Octets.{num, total}
+use borrow.Author.Tests.{leb-true, ltb-true}
+use lib.Dec.{leb, ltb}
+use lib.ListN.{length, getD, drop}
+use lib.Seq.{drop-cons}
+use Rattle.tlvs.specs.Octets.{num, total, isWord}
 use Rattle.tlvs.specs.Tlvs.{rows, row, eventLength}
-use Rattle.tlvs.specs.Events.{fieldsAt}
+use Rattle.tlvs.specs.Events.{fieldsAt, startsFrom, eventOf}
 
 -- "Length" in the table of event TLVs, and 0 for what is not in it
 pub lengths : map eventLength (0 ∷ 1 ∷ 2 ∷ 3 ∷ 4 ∷ 5 ∷ []) ≡ 0 ∷ 40 ∷ 26 ∷ 28 ∷ 18 ∷ 0 ∷ []
@@ -65,10 +65,57 @@ row-of t l h =
 pub total-at : (ws : List ℕ) (k : ℕ) → k < length ws → total (drop k ws) ≡ getD ws k 0 + total (drop (k + 1) ws)
 total-at ws k h = rw (add-one k, drop-cons ws k 0 h)
 
--- one field more is read
-pub fields-step : (ws : List ℕ) (k : ℕ) → k < length ws → (values : List ℕ) → k < length values → (s : List ℕ) (at : ℕ)
-    → take k values ++ fieldsAt (drop k ws) s at
-    ≡ take (k + 1) (set values k (num (getD ws k 0) s at)) ++ fieldsAt (drop (k + 1) ws) s (at + getD ws k 0)
-fields-step ws k h values g s at =
-    let x = num (getD ws k 0) s at in
-    rw (add-one k, drop-cons ws k 0 h, take-suc-set values k x g, append-assoc (take k values) (x ∷ []))
+-- six widths, each for itself
+pub six-cells : (ws : List ℕ) → length ws ≡ 6
+    → ws ≡ getD ws 0 0 ∷ getD ws 1 0 ∷ getD ws 2 0 ∷ getD ws 3 0 ∷ getD ws 4 0 ∷ getD ws 5 0 ∷ []
+six-cells [] h = absurd (omega arith)
+six-cells (a ∷ []) h = absurd (omega arith)
+six-cells (a ∷ b ∷ []) h = absurd (omega arith)
+six-cells (a ∷ b ∷ c ∷ []) h = absurd (omega arith)
+six-cells (a ∷ b ∷ c ∷ d ∷ []) h = absurd (omega arith)
+six-cells (a ∷ b ∷ c ∷ d ∷ e ∷ []) h = absurd (omega arith)
+six-cells (a ∷ b ∷ c ∷ d ∷ e ∷ f ∷ []) h = refl
+six-cells (a ∷ b ∷ c ∷ d ∷ e ∷ f ∷ g ∷ ws) h = absurd (omega arith)
+
+-- a field begins where those before it end, and ends where all of them end or before
+ends-within : (ws : List ℕ) (at k : ℕ) → k < length ws → getD (startsFrom at ws) k 0 + getD ws k 0 ≤ at + total ws
+ends-within [] at k h = absurd (omega arith)
+ends-within (w ∷ ws) at zero h = omega arith
+ends-within (w ∷ ws) at (suc k) h = omega (arith, ends-within ws (at + w) k (omega arith))
+
+-- and it is the number that stands there
+field-at : (ws s : List ℕ) (at k : ℕ) → k < length ws → num (getD ws k 0) s (getD (startsFrom at ws) k 0) ≡ getD (fieldsAt ws s at) k 0
+field-at [] s at k h = absurd (omega arith)
+field-at (w ∷ ws) s at zero h = refl
+field-at (w ∷ ws) s at (suc k) h = field-at ws s (at + w) k (omega arith)
+
+-- what is asked of a field that is to be read
+abbrev pub Readable : List ℕ → List ℕ → ℕ → ℕ → Type 0
+Readable ws starts len k = (k < 6) × (isWord (getD ws k 0) ≡ true) × (getD starts k 0 + getD ws k 0 ≤ len)
+
+-- six fields, where they begin from an octet
+module _ (ws starts : List ℕ) (at : ℕ) (six : length ws ≡ 6) (begun : starts ≡ startsFrom at ws) where
+  -- can each be read
+  pub readable : (len : ℕ) → at + total ws ≤ len → (k : ℕ) → ltb k 6 ≡ true → isWord (getD ws k 0) ≡ true → Readable ws starts len k
+  readable len fits k below word =
+      let h : k < 6 = ltb-true k 6 below in (h, word, rw begun (omega (arith, ends-within ws at k (omega arith))))
+
+  -- and make up an event
+  module _ (s : List ℕ) where
+    abbrev Read : ℕ → ℕ → Type 0
+    Read k n = n ≡ num (getD ws k 0) s (getD starts k 0)
+
+    field : (k n : ℕ) → k < 6 → Read k n → n ≡ getD (fieldsAt ws s at) k 0
+    field k n h e = e ∙ rw begun (field-at ws s at k (omega arith))
+
+    pub event-read : (t a b c d e f : ℕ) → Read 0 a → Read 1 b → Read 2 c → Read 3 d → Read 4 e → Read 5 f
+        → eventOf t (a ∷ b ∷ c ∷ d ∷ e ∷ f ∷ []) ≡ eventOf t (fieldsAt ws s at)
+    event-read t a b c d e f p q r u v w =
+        rw (
+          field 0 a (omega arith) p,
+          field 1 b (omega arith) q,
+          field 2 c (omega arith) r,
+          field 3 d (omega arith) u,
+          field 4 e (omega arith) v,
+          field 5 f (omega arith) w,
+        )

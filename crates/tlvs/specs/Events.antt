@@ -34,6 +34,12 @@ eventOf t values =
 unfoldable pub eventAt : List ℕ → ℕ → ℕ → Event
 eventAt s at t = eventOf t (fieldsAt (row t) s (at + 2))
 
+-- How `event_at` comes to it (`field-at` in proofs/Rows.antt): where each of the fields begins that stand one after another from
+-- octet `at`.
+abbrev pub startsFrom : ℕ → List ℕ → List ℕ
+startsFrom at [] = []
+startsFrom at (w ∷ ws) = at ∷ startsFrom (at + w) ws
+
 abbrev pub stepOf : List ℕ → ℕ → Mark → EventStep
 stepOf s at MarkEnd = End
 stepOf s at MarkBroken = Broken

@@ -1,7 +1,7 @@
 -- The TLVs of Information and Event Notification bodies.
 use Prim.Native.Nat.{ℕ, zero, suc, _+_, _-_}
 use mathlib.Core.List.{List, [], _∷_}
-use mathlib.Core.Bool.{Bool, true, false, cond, _||_}
+use mathlib.Core.Bool.{cond, _||_}
 use lib.ListN.{length, getD, replicate}
 use lib.Dec.{ltb, leb, eqb}
 use Rattle.tlvs.specs.Octets.{total}
@@ -64,3 +64,16 @@ marked kind (At t n next) = markOf t n next (known kind t)
 -- what stands at octet `at` of a body of TLVs
 unfoldable pub markAt : Kind → List ℕ → ℕ → Mark
 markAt kind s at = marked kind (tlvAt s at)
+
+-- How `mark_at` comes to it (`known-mark` and `unknown-mark` in proofs/Marks.antt): by the type first. The mark of a TLV whose
+-- type is not known,
+abbrev pub unknownMark : Tlv → Mark
+unknownMark TlvEnd = End
+unknownMark TlvBroken = Broken
+unknownMark (At t n next) = Unknown next
+
+-- and of one whose type is known: its length is the expected one, and so many octets stand there
+abbrev pub knownMark : List ℕ → ℕ → ℕ → Mark
+knownMark s at expected =
+    cond (ltb (length s) (at + expected)) Broken
+    (cond (eqb (getD s (at + 1) 0) expected) (Known (getD s at 0) (at + expected)) Broken)

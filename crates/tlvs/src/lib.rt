@@ -22,7 +22,7 @@ pub enum Kind {
     Events,
 }
 
-// The same as a kind of body sees it: an unknown TLV, or a known one with its type, and the octet after it.
+// What stands at an octet, as a kind of body sees it: an unknown TLV, or a known one with its type; with the octet after it.
 pub enum Mark {
     End,
     Broken,

@@ -1,6 +1,11 @@
 // The TLV that stands at an octet of a body, and whether that kind of body knows it.
+//
+// A body's own types are looked at first, each with its length: of such a TLV only its length octet and its end are tested.
 ghost use mathlib.Core.Path.{_≡_};
-ghost use Rattle.tlvs.specs.Tlvs.{tlvAt, informationLength, markOf, known, markAt};
+ghost use Prim.Native.Nat.{_≤_, _<_};
+ghost use lib.ListN.{length};
+ghost use Rattle.tlvs.specs.Tlvs.{tlvAt, unknownMark, knownMark, markAt};
+ghost use Rattle.tlvs.specs.declared.Kind.the-variants.{Information, Events};
 use crate::Kind;
 use crate::Mark;
 use crate::notifications::event_length;
@@ -35,45 +40,69 @@ fn tlv_at(body: &[u8], at: usize) -> Tlv
     Tlv::At(t, length, at + length)
 }
 
-fn information_length(t: u8) -> usize
-    ensures { λ r. ⌜ r ≡ informationLength t ⌝ }
+// The mark of a TLV whose type is not known.
+fn unknown_mark(tlv: Tlv) -> Mark
+    ensures { λ r. ⌜ r ≡ unknownMark tlv ⌝ }
 {
-    if t == 1 {
-        return 16;
-    }
-    if t == 2 { 16 } else { 0 }
-}
-
-// The length of a TLV of a type that the kind of body knows; 0 for a type that it does not know.
-fn known_length(kind: Kind, t: u8) -> usize
-    ensures { λ r. ⌜ r ≡ known kind t ⌝ }
-{
-    match kind {
-        Kind::Information => information_length(t),
-        Kind::Events => event_length(t),
+    match tlv {
+        Tlv::End => Mark::End,
+        Tlv::Broken => Mark::Broken,
+        Tlv::At(_, _, next) => Mark::Unknown(next),
     }
 }
 
-fn mark_of(t: u8, n: usize, next: usize, expected: usize) -> Mark
-    ensures { λ r. ⌜ r ≡ markOf t n next expected ⌝ }
+// The mark of a TLV whose type is known to have some length.
+fn known_mark(body: &[u8], at: usize, expected: usize) -> Mark
+    requires { ⌜ (at < length (now body)) × (2 ≤ expected) × (expected ≤ 40) ⌝ }
+    ensures { λ r. ⌜ r ≡ knownMark (now (body .entry)) at expected ⌝ }
 {
-    if expected == 0 {
-        Mark::Unknown(next)
+    let next = at + expected;
+    if body.len() < next {
+        return Mark::Broken;
+    }
+    let length = body[at + 1] as usize;
+    if length == expected {
+        Mark::Known(body[at], next)
     } else {
-        if n == expected {
-            Mark::Known(t, next)
-        } else {
-            Mark::Broken
-        }
+        Mark::Broken
+    }
+}
+
+fn information_mark(body: &[u8], at: usize) -> Mark
+    requires { ⌜ at < length (now body) ⌝ }
+    ensures { λ r. ⌜ r ≡ markAt Information (now (body .entry)) at ⌝ }
+{
+    let t = body[at];
+    match t {
+        1 => known_mark(body, at, 16),
+        2 => known_mark(body, at, 16),
+        _ => unknown_mark(tlv_at(body, at)),
+    }
+}
+
+// An arm for each type, so that its length is a constant there.
+fn event_mark(body: &[u8], at: usize) -> Mark
+    requires { ⌜ at < length (now body) ⌝ }
+    ensures { λ r. ⌜ r ≡ markAt Events (now (body .entry)) at ⌝ }
+{
+    let t = body[at];
+    match t {
+        1 => known_mark(body, at, event_length(1)),
+        2 => known_mark(body, at, event_length(2)),
+        3 => known_mark(body, at, event_length(3)),
+        4 => known_mark(body, at, event_length(4)),
+        _ => unknown_mark(tlv_at(body, at)),
     }
 }
 
 pub fn mark_at(kind: Kind, body: &[u8], at: usize) -> Mark
     ensures { λ r. ⌜ r ≡ markAt kind (now (body .entry)) at ⌝ }
 {
-    match tlv_at(body, at) {
-        Tlv::End => Mark::End,
-        Tlv::Broken => Mark::Broken,
-        Tlv::At(t, length, next) => mark_of(t, length, next, known_length(kind, t)),
+    if body.len() <= at {
+        return Mark::End;
+    }
+    match kind {
+        Kind::Information => information_mark(body, at),
+        Kind::Events => event_mark(body, at),
     }
 }

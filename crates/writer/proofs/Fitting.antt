@@ -1,4 +1,4 @@
--- What the reader shows fits the octets that it stands in.
+-- What a message says fits the octets that it stands in.
 use Prim.Native.Nat.{ℕ, _^_, _<_}
 use mathlib.Core.Path.{_≡_, sym, _∙_}
 use mathlib.Core.List.{List}

@@ -1,14 +1,13 @@
 -- The writers' tests of the plain form, against its definition.
 use Prim.Native.Nat.{ℕ, _^_, _<_, _≤_}
 use mathlib.Core.Path.{_≡_, refl, sym}
-use mathlib.Core.Bool.{Bool, true, false, _&&_, and-true, and-eq-true-iff}
+use mathlib.Core.Bool.{true, _&&_, and-true, and-eq-true-iff}
 use native.Mathlib.Omega.{arith}
 use borrow.Author.Tests.{lt-ltb, leb-true}
 use lib.Dec.{ltb, leb}
 use Rattle.body.specs.declared.Information.{Information}
 use Rattle.body.specs.declared.Held.{Held}
 use Rattle.body.specs.declared.Held.the-variants.{Nothing, Is}
-use Rattle.writer.specs.Octets.{fit}
 use Rattle.writer.specs.Plain.{plainInformation, plainParts, plainOrganization}
 use Rattle.writer.specs.Writing.{partsFrom, plainLocal}
 

@@ -9,7 +9,6 @@ use Rattle.tlvs.specs.Tlvs.{row, eventLength}
 use Rattle.tlvs.specs.Walk.{Walk, ends, breaks, over, part}
 use Rattle.body.specs.Information.{InformationPart, local, remote, informationWalk}
 use Rattle.tlvs.specs.Events.{eventWalk}
-use Rattle.body.specs.Variables.{descriptorWalk}
 use Rattle.frame.specs.Frame.{Body, information, notification, request, response, loopback, organization, Message, Answer, refused, accepted, decode}
 use Rattle.body.specs.declared.Information.{Information}
 use Rattle.tlvs.specs.declared.Event.{Event}

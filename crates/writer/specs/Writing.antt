@@ -2,14 +2,14 @@
 use Prim.Native.Nat.{ℕ, zero, suc, _/_, _%_}
 use mathlib.Core.Path.{_≡_}
 use mathlib.Core.List.{List, [], _∷_}
-use mathlib.Core.Bool.{Bool, true, false, cond, _&&_}
+use mathlib.Core.Bool.{Bool, false, cond, _&&_}
 use lib.ListN.{length, getD, drop}
 use lib.Seq.{sets}
 use lib.Dec.{ltb, eqb}
 use Rattle.body.specs.Information.{InformationPart, local, remote}
 use Rattle.tlvs.specs.Tlvs.{eventLength}
 use Rattle.tlvs.specs.Events.{eventOf}
-use Rattle.frame.specs.Frame.{Body, information, notification, request, loopback, organization, Message}
+use Rattle.frame.specs.Frame.{Body, Message}
 use Rattle.tlvs.specs.declared.Event.{Event}
 use Rattle.body.specs.declared.Found.{Found}
 use Rattle.body.specs.declared.Information.{Information}

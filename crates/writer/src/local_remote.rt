@@ -5,7 +5,7 @@ ghost use lib.ListN.{length};
 ghost use lib.Seq.{sets};
 ghost use Rattle.frame.specs.Frame.{information};
 ghost use Rattle.writer.specs.Encode.{informationOctets, heldOctets};
-ghost use Rattle.writer.specs.Plain.{plainInformation, plainParts, plain};
+ghost use Rattle.writer.specs.Plain.{plainInformation, plainParts};
 ghost use Rattle.writer.specs.Writing.{Writing, messageOf, partsFrom, partsOf, plainLocal};
 use crate::Written;
 use crate::header::finish;

@@ -46,7 +46,7 @@ const ALL: &[Command] = &[
     Command {
         name: "speed",
         form: "PROGRAM [WORD ...] [--seed N] [--megabytes N] [--runs N]",
-        purpose: "compare a lister's speed with the hand-written one's",
+        purpose: "compare a lister's speed with the hand-written one's and with tshark's",
         options: &["--seed", "--megabytes", "--runs"],
         run: speed::run,
     },

@@ -1,7 +1,8 @@
-//! Running a lister as a process: fed from a file, through a pipe in pieces, or
-//! one piece after the answer to the last.
+//! Running a lister or another program as a process: fed from a file, through a
+//! pipe in pieces, or one piece after the answer to the last.
 
 use std::error::Error;
+use std::fmt;
 use std::fs::{self, File};
 use std::io::{self, Read, Write};
 use std::path::{Path, PathBuf};
@@ -14,6 +15,15 @@ use std::time::{Duration, Instant};
 pub struct Program {
     path: PathBuf,
     words: Vec<String>,
+}
+
+impl fmt::Display for Program {
+    fn fmt(&self, text: &mut fmt::Formatter) -> fmt::Result {
+        write!(text, "{}", self.path.display())?;
+        self.words
+            .iter()
+            .try_for_each(|word| write!(text, " {word}"))
+    }
 }
 
 /// What a program wrote, and how it ended.
@@ -30,6 +40,12 @@ impl Program {
             path: path.into(),
             words: words.to_vec(),
         }
+    }
+
+    /// This program run by another, with words of that one's own before it.
+    pub fn under(&self, tool: &str, words: &[String]) -> Self {
+        let path = self.path.display().to_string();
+        Program::new(tool, &[words, &[path], &self.words].concat())
     }
 
     /// Runs the program with its standard input from a file.
@@ -115,6 +131,14 @@ impl Program {
             .spawn()
             .map_err(|error| format!("{}: {error}", self.path.display()).into())
     }
+}
+
+/// The first line that a program says of its version, or nothing where it is not
+/// installed.
+pub fn version(program: &str) -> Option<String> {
+    let ran = Command::new(program).arg("--version").output().ok()?;
+    let said = String::from_utf8_lossy(&ran.stdout).into_owned();
+    said.lines().next().map(String::from)
 }
 
 /// What comes from a pipe, as it comes.
@@ -228,6 +252,20 @@ mod tests {
         assert_eq!(fs::read(&path).expect("there"), b"octets");
         drop(file);
         assert!(!path.exists());
+    }
+
+    #[test]
+    fn a_program_is_run_by_another() {
+        let words = [String::from("two")];
+        let program = Program::new("one", &words).under("echo", &[String::from("-n")]);
+        let ran = program.run_on_pipe(b"", || 1).expect("echo is there");
+        assert_eq!(ran.output, b"one two");
+    }
+
+    #[test]
+    fn a_version_is_told_of_what_is_installed() {
+        assert!(version("cargo").is_some_and(|line| line.starts_with("cargo ")));
+        assert_eq!(version("no-such-program"), None);
     }
 
     #[test]

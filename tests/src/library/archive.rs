@@ -68,12 +68,14 @@ extern "C" {
 
     fn oam_read(frame: *const u8, frame_len: usize, header: *mut u64, header_len: usize) -> u64;
 
-    fn oam_part(
+    fn oam_read_all(
         frame: *const u8,
         frame_len: usize,
-        at: usize,
-        part: *mut u64,
-        part_len: usize,
+        first: usize,
+        header: *mut u64,
+        header_len: usize,
+        rows: *mut u64,
+        rows_len: usize,
     ) -> u64;
 }
 
@@ -140,8 +142,10 @@ impl Library for Archive {
     }
 
     #[inline(always)]
-    fn part(&self, frame: &[u8], at: usize, part: &mut [u64]) -> u64 {
-        let (part, part_len) = (part.as_mut_ptr(), part.len());
-        unsafe { oam_part(frame.as_ptr(), frame.len(), at, part, part_len) }
+    fn read_all(&self, frame: &[u8], first: usize, header: &mut [u64], rows: &mut [u64]) -> u64 {
+        let (frame, frame_len) = (frame.as_ptr(), frame.len());
+        let (header, header_len) = (header.as_mut_ptr(), header.len());
+        let (rows, rows_len) = (rows.as_mut_ptr(), rows.len());
+        unsafe { oam_read_all(frame, frame_len, first, header, header_len, rows, rows_len) }
     }
 }

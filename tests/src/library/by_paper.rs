@@ -1,9 +1,8 @@
 //! The library as this package's reading of the paper has it.
 
-use super::{kind, Library, HEADER, PART};
+use super::{kind, Library, HEADER, ROW};
 use crate::paper::{
-    answer, check, joined, list_start, log, part_at, read, write, Body, Draft, Listed, Message,
-    Part, Standing,
+    answer, joined, list, log, read, write, Body, Draft, Listed, Message, Part, Standing,
 };
 
 pub struct ByPaper;
@@ -31,24 +30,26 @@ impl Library for ByPaper {
         }
     }
 
-    fn part(&self, frame: &[u8], at: usize, part: &mut [u64]) -> u64 {
-        let Ok(heading) = check(frame) else {
-            return kind::NONE.into();
+    fn read_all(&self, frame: &[u8], first: usize, header: &mut [u64], rows: &mut [u64]) -> u64 {
+        let Some(header) = header.get_mut(..HEADER) else {
+            return answer::OUTPUT.into();
         };
-        if list_start(heading.code).is_none() || part.len() < PART {
-            return kind::NONE.into();
-        }
-        let kind = match part_at(heading.code, frame, at) {
-            Err(_) => kind::BROKEN,
-            Ok(None) => kind::END,
-            Ok(Some(standing)) => store_part(&standing, part),
+        let message = match read(frame) {
+            Ok(message) => message,
+            Err(answer) => return answer.into(),
         };
-        kind.into()
+        header.copy_from_slice(&header_of(&message));
+        let list = list(message.body.code(), frame);
+        let all: Vec<[u64; ROW]> = list.iter().filter_map(row).collect();
+        let stored = all.iter().skip(first).zip(rows.chunks_exact_mut(ROW));
+        stored.for_each(|(row, room)| room.copy_from_slice(row));
+        outcome(Ok(all.len()))
     }
 }
 
-fn outcome(written: Result<usize, u8>) -> u64 {
-    match written {
+/// What was written is told by its length, what was read by its count.
+fn outcome(done: Result<usize, u8>) -> u64 {
+    match done {
         Ok(length) => (length as u64) << 8 | u64::from(answer::ACCEPTED),
         Err(answer) => answer.into(),
     }
@@ -81,10 +82,10 @@ pub(super) fn header_of(message: &Message) -> [u64; HEADER] {
     ]
 }
 
-/// Stores a part, as many numbers as it has, and gives its kind.
-fn store_part(standing: &Standing, room: &mut [u64]) -> u8 {
+/// The row of a part; a TLV that is skipped has none.
+fn row(standing: &Standing) -> Option<[u64; ROW]> {
     let (kind, numbers) = match standing.part {
-        Listed::Skipped => (kind::SKIPPED, vec![]),
+        Listed::Skipped => return None,
         Listed::Information(part @ Part::Local(_)) => {
             (kind::LOCAL, part.fields().numbers().to_vec())
         }
@@ -106,9 +107,11 @@ fn store_part(standing: &Standing, room: &mut [u64]) -> u8 {
             (kind::INDICATION, vec![descriptor, width.into()])
         }
     };
-    room[0] = standing.next as u64;
-    room[1..=numbers.len()].copy_from_slice(&numbers);
-    kind
+    let mut row = [0; ROW];
+    row[0] = kind;
+    row[1] = standing.next as u64;
+    row[2..2 + numbers.len()].copy_from_slice(&numbers);
+    Some(row)
 }
 
 #[cfg(test)]
@@ -135,9 +138,14 @@ mod tests {
         (ByPaper.read(frame, &mut header), header)
     }
 
-    fn part_into<const N: usize>(frame: &[u8], at: usize) -> (u64, [u64; N]) {
-        let mut part = [OLD; N];
-        (ByPaper.part(frame, at, &mut part), part)
+    /// The outcome with room for `N` numbers of rows, and what is stored there.
+    fn rows_into<const N: usize>(frame: &[u8], first: usize) -> (u64, [u64; N]) {
+        let (mut header, mut rows) = ([OLD; HEADER + 1], [OLD; N]);
+        let outcome = ByPaper.read_all(frame, first, &mut header, &mut rows);
+        let mut expected = [OLD; HEADER + 1];
+        ByPaper.read(frame, &mut expected);
+        assert_eq!(header, expected);
+        (outcome, rows)
     }
 
     #[test]
@@ -189,53 +197,71 @@ mod tests {
         assert_eq!(values, [7, 1, 4, 1, 2, 3, 4, 5, 6, OLD]);
     }
 
-    /// The part's kind and its numbers, those behind them old.
-    fn part(kind: u8, numbers: &[u64]) -> (u64, [u64; PART]) {
-        let mut stored = [OLD; PART];
-        stored[..numbers.len()].copy_from_slice(numbers);
-        (kind.into(), stored)
+    /// Rows of a kind, the next octet and numbers, and old values behind them.
+    fn rows<const N: usize>(parts: &[(u64, &[u64])]) -> [u64; N] {
+        let mut rows = [OLD; N];
+        for (row, (kind, numbers)) in rows.chunks_mut(ROW).zip(parts) {
+            row.fill(0);
+            row[0] = *kind;
+            row[1..=numbers.len()].copy_from_slice(numbers);
+        }
+        rows
     }
 
     #[test]
-    fn a_part_is_the_octet_after_it_and_its_numbers() {
+    fn a_row_is_a_kind_the_octet_after_the_part_and_its_numbers() {
         let local = [
             1, 16, 1, 0, 42, 5, 0x1D, 5, 0xEE, 0, 0x1B, 0x21, 0xDE, 0xAD, 0xBE, 0xEF,
         ];
         let remote = [&[2], &local[1..]].concat();
         let information = frame(0, &[&local[..], &[9, 3, 0], &remote].concat());
-        let fields = [1, 42, 5, 0x1D, 0x05EE, 0x1B21, 0xDEAD_BEEF];
-        let with_next = |next| [&[next], &fields[..]].concat();
-        assert_eq!(part_into(&information, 18), part(4, &with_next(34)));
-        assert_eq!(part_into(&information, 34), part(3, &[37]));
-        assert_eq!(part_into(&information, 37), part(5, &with_next(53)));
-        assert_eq!(part_into(&information, 53), part(1, &[]));
-        assert_eq!(part_into(&information, 19), part(2, &[])); // length 1
+        let with_next = |next| [next, 1, 42, 5, 0x1D, 0x05EE, 0x1B21, 0xDEAD_BEEF];
+        let (first, second) = (with_next(34), with_next(53));
+        let expected = rows(&[(32, &first), (33, &second)]);
+        assert_eq!(rows_into::<30>(&information, 0), (2 * 256, expected));
 
         let seconds = [4, 18, 0, 1, 0, 2, 0, 3, 0, 4, 0, 0, 0, 5, 0, 0, 0, 6];
         let notification = frame(1, &[&[0, 0], &seconds[..]].concat());
-        let numbers = [38, 4, 1, 2, 3, 4, 5, 6];
-        assert_eq!(part_into(&notification, 20), part(6, &numbers));
+        let expected = rows(&[(34, &[38, 4, 1, 2, 3, 4, 5, 6])]);
+        assert_eq!(rows_into::<10>(&notification, 0), (256, expected));
 
         let request = frame(2, &[7, 1, 2, 0, 5]);
-        assert_eq!(part_into(&request, 18), part(7, &[21, 0x07_0102]));
-        assert_eq!(part_into(&request, 21), part(1, &[]));
-        assert_eq!(part_into(&request, 22), part(7, &[25, 0x05_0000]));
+        let expected = rows(&[(35, &[21, 0x07_0102])]);
+        assert_eq!(rows_into::<9>(&request, 0), (256, expected));
 
         let response = frame(3, &[7, 1, 2, 2, 0xAA, 0xBB, 7, 1, 3, 0xA1]);
-        assert_eq!(part_into(&response, 18), part(8, &[24, 0x07_0102, 22, 2]));
-        assert_eq!(part_into(&response, 24), part(9, &[28, 0x07_0103, 0xA1]));
-        // The value's own octets, and the descriptor behind it, as a container.
-        assert_eq!(part_into(&response, 22), part(8, &[27, 0xAA_BB07, 26, 1]));
+        let value = [24, 0x07_0102, 22, 2];
+        let expected = rows(&[(36, &value), (37, &[28, 0x07_0103, 0xA1])]);
+        assert_eq!(rows_into::<18>(&response, 0), (2 * 256, expected));
     }
 
     #[test]
-    fn there_is_no_part_without_a_list_an_accepted_frame_and_room() {
-        let none = (0, [OLD; PART]);
-        assert_eq!(part_into(&frame(4, &[1]), 18), none);
-        assert_eq!(part_into(&frame(0xFE, &[]), 18), none);
-        assert_eq!(part_into(&frame(5, &[]), 18), none);
-        assert_eq!(part_into(&frame(0, &[3, 1]), 30), none);
-        assert_eq!(part_into(&frame(2, &[7, 1, 2]), 18), (0, [OLD; 9]));
-        assert_eq!(part_into(&frame(2, &[7, 1, 2])[..59], 18), none);
+    fn rows_are_stored_whole_from_the_first_that_is_asked_for() {
+        let request = frame(2, &[1, 0, 1, 2, 0, 2, 3, 0, 3]);
+        let [one, two, three] = [[21, 0x01_0001], [24, 0x02_0002], [27, 0x03_0003]];
+        let count = 3 * 256;
+        let expected = rows(&[(35, &one)]);
+        assert_eq!(rows_into::<17>(&request, 0), (count, expected));
+        let expected = rows(&[(35, &two), (35, &three)]);
+        assert_eq!(rows_into::<20>(&request, 1), (count, expected));
+        let expected = rows(&[(35, &three)]);
+        assert_eq!(rows_into::<100>(&request, 2), (count, expected));
+        assert_eq!(rows_into(&request, 3), (count, [OLD; 100]));
+        assert_eq!(rows_into(&request, usize::MAX), (count, [OLD; 100]));
+        assert_eq!(rows_into(&request, 0), (count, [OLD; 8]));
+        assert_eq!(rows_into(&request, 0), (count, [OLD; 0]));
+    }
+
+    #[test]
+    fn there_is_no_row_without_a_list_and_an_accepted_frame() {
+        assert_eq!(rows_into(&frame(4, &[1]), 0), (0, [OLD; 9]));
+        assert_eq!(rows_into(&frame(0xFE, &[1, 2, 3]), 0), (0, [OLD; 9]));
+        assert_eq!(rows_into(&frame(2, &[]), 0), (0, [OLD; 9]));
+        assert_eq!(rows_into(&frame(5, &[]), 0), (5, [OLD; 9]));
+        assert_eq!(rows_into(&frame(0, &[3, 1]), 0), (6, [OLD; 9]));
+        assert_eq!(rows_into(&frame(2, &[7, 1, 2])[..59], 0), (1, [OLD; 9]));
+        let (mut header, mut rows) = ([OLD; HEADER - 1], [OLD; ROW]);
+        let short = ByPaper.read_all(&frame(5, &[]), 0, &mut header, &mut rows);
+        assert_eq!((short, header, rows), (9, [OLD; HEADER - 1], [OLD; ROW]));
     }
 }

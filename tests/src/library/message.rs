@@ -1,9 +1,9 @@
 //! A whole message, read through a library's functions alone.
 
-use super::{answer_of, kind, Library, HEADER, PART};
+use super::{answer_of, kind, length_of, Library, HEADER, ROW};
 use crate::paper::{
-    answer, code, list_start, parted, Body, Container, Content, Descriptor, Event, Information,
-    Message, Part, NUMBERS,
+    answer, code, parted, Body, Container, Content, Descriptor, Event, Information, Message, Part,
+    MOST_PARTS, NUMBERS,
 };
 use std::borrow::Cow;
 
@@ -16,59 +16,59 @@ pub enum Unread {
     Senseless(String),
 }
 
-/// Reads a frame: its header by one call, its parts by one call each.
+/// Reads a frame, its header and all its parts, by one call.
 pub fn message<'a>(library: &dyn Library, frame: &'a [u8]) -> Result<Message<'a>, Unread> {
-    let mut header = [0; HEADER];
-    match answer_of(library.read(frame, &mut header)) {
+    let (mut header, mut rows) = ([0; HEADER], [0; ROW * MOST_PARTS]);
+    let outcome = library.read_all(frame, 0, &mut header, &mut rows);
+    match answer_of(outcome) {
         answer::ACCEPTED => {}
         refusal => return Err(Unread::Refused(refusal)),
     }
+    let count = length_of(outcome);
+    if count > MOST_PARTS {
+        return senseless(format!("a frame has {count} parts"));
+    }
     let [source, flags, code, fixed] = header;
-    let code = fit(code)?;
     Ok(Message {
         source: octets(source)?,
         flags: fit(flags)?,
-        body: body(code, fixed, frame, &list(library, code, frame)?)?,
+        body: body(
+            fit(code)?,
+            fixed,
+            frame,
+            &list(frame, &rows[..ROW * count])?,
+        )?,
     })
 }
 
-/// A part that is not skipped: its kind and the numbers behind the next octet.
+/// A part: its kind and the numbers behind the next octet.
 struct Given {
-    kind: u8,
-    numbers: [u64; PART - 1],
+    kind: u64,
+    numbers: [u64; ROW - 2],
 }
 
-/// All parts of an accepted frame.
-fn list(library: &dyn Library, code: u8, frame: &[u8]) -> Result<Vec<Given>, Unread> {
-    let mut parts = Vec::new();
-    let Some(mut at) = list_start(code) else {
-        return Ok(parts);
-    };
-    loop {
-        let mut part = [0; PART];
-        let kind = answer_of(library.part(frame, at, &mut part));
-        let [next, numbers @ ..] = part;
-        match kind {
-            kind::END => return Ok(parts),
-            kind::NONE | kind::BROKEN => {
-                return senseless(format!(
-                    "an accepted frame's part at {at} is of kind {kind}"
-                ));
-            }
-            kind::SKIPPED => {}
-            _ => parts.push(Given { kind, numbers }),
-        }
-        let next: usize = fit(next)?;
-        // A walk that does not go on would never end.
+/// The parts of rows. Each ends behind the one before it and in the frame.
+fn list(frame: &[u8], rows: &[u64]) -> Result<Vec<Given>, Unread> {
+    let (mut parts, mut at) = (Vec::new(), 0);
+    for row in rows.chunks_exact(ROW) {
+        let next: usize = fit(row[1])?;
         if next <= at || next > frame.len() {
-            return senseless(format!("behind octet {at} the list goes on at {next}"));
+            return senseless(format!("behind octet {at} a part ends at {next}"));
         }
         at = next;
+        parts.push(Given {
+            kind: row[0],
+            numbers: *row.last_chunk().expect("a row has more numbers"),
+        });
     }
+    Ok(parts)
 }
 
 fn body<'a>(code: u8, fixed: u64, frame: &'a [u8], list: &[Given]) -> Result<Body<'a>, Unread> {
     let parts = list.iter();
+    if let (code::LOOPBACK | code::ORGANIZATION, [part, ..]) = (code, list) {
+        return part.foreign();
+    }
     Ok(match code {
         code::INFORMATION => Body::Information(parts.map(information).collect::<Result<_, _>>()?),
         code::NOTIFICATION => Body::Notification {
@@ -134,7 +134,7 @@ fn container<'a>(part: &Given, frame: &'a [u8]) -> Result<Container<'a>, Unread>
 
 impl Given {
     fn seven(&self) -> &[u64; NUMBERS] {
-        self.numbers.first_chunk().expect("a part's room is larger")
+        &self.numbers
     }
 
     fn descriptor(&self) -> Result<Descriptor, Unread> {
@@ -169,7 +169,7 @@ fn octets<const N: usize>(number: u64) -> Result<[u8; N], Unread> {
 #[cfg(test)]
 mod tests {
     use super::*;
-    use crate::generate::{any_code, any_frame, loose};
+    use crate::generate::any_frame;
     use crate::library::ByPaper;
     use crate::paper::{read, Draft};
     use crate::random::Random;
@@ -184,10 +184,12 @@ mod tests {
         }
     }
 
-    /// Answers every part alike, and leaves the rest to the paper's library.
+    /// Answers with a header of some code and one row, and leaves the rest to the
+    /// paper's library.
     struct Always {
-        kind: u8,
-        part: [u64; PART],
+        code: u8,
+        row: [u64; ROW],
+        count: u64,
     }
 
     impl Library for Always {
@@ -207,38 +209,40 @@ mod tests {
             ByPaper.read(frame, header)
         }
 
-        fn part(&self, _: &[u8], _: usize, part: &mut [u64]) -> u64 {
-            part.copy_from_slice(&self.part);
-            self.kind.into()
+        fn read_all(&self, _: &[u8], _: usize, header: &mut [u64], rows: &mut [u64]) -> u64 {
+            header.copy_from_slice(&[0, 0, self.code.into(), 0]);
+            for row in rows.chunks_exact_mut(ROW) {
+                row.copy_from_slice(&self.row);
+            }
+            self.count << 8
         }
     }
 
     #[test]
-    fn a_senseless_list_is_no_message_and_ends() {
-        let mut random = Random::new(4);
-        let beyond = [40, 1 << 40, 1 << 40, 1 << 40, 0, 0, 0, 0, 0, 0];
-        for (kind, part) in [
-            (kind::NONE, [0; PART]),
-            (kind::BROKEN, [0; PART]),
-            (kind::SKIPPED, [0; PART]),
-            (kind::DESCRIPTOR, [18; PART]),
-            (kind::VALUE, [u64::MAX; PART]),
-            (kind::LOCAL, beyond),
-            (kind::EVENT, beyond),
-            (kind::DESCRIPTOR, beyond),
-            (kind::VALUE, beyond),
-            (kind::INDICATION, beyond),
-            (11, beyond),
+    fn a_senseless_list_is_no_message() {
+        let beyond = |kind| [kind, 40, 1 << 40, 1 << 40, 1 << 40, 0, 0, 0, 0];
+        let descriptor = |next| [kind::DESCRIPTOR, next, 0x07_0102, 0, 0, 0, 0, 0, 0];
+        let most = MOST_PARTS as u64;
+        for (code, row, count) in [
+            (code::INFORMATION, beyond(kind::LOCAL), 1),
+            (code::INFORMATION, descriptor(40), 1),
+            (code::NOTIFICATION, beyond(kind::EVENT), 1),
+            (code::REQUEST, beyond(kind::DESCRIPTOR), 1),
+            (code::REQUEST, descriptor(0), 1),
+            (code::REQUEST, descriptor(61), 1),
+            (code::REQUEST, descriptor(40), 2),
+            (code::REQUEST, descriptor(40), most + 1),
+            (code::REQUEST, beyond(0), 1),
+            (code::RESPONSE, beyond(kind::VALUE), 1),
+            (code::RESPONSE, beyond(kind::INDICATION), 1),
+            (code::LOOPBACK, descriptor(40), 1),
+            (code::ORGANIZATION, descriptor(40), 1),
+            (5, descriptor(40), 1),
         ] {
-            for _ in 0..50 {
-                let code = any_code(&mut random);
-                let frame = loose(&mut random, code).frame;
-                let found = message(&Always { kind, part }, &frame);
-                match list_start(code) {
-                    None => assert!(found.is_ok()),
-                    Some(_) => assert!(matches!(found, Err(Unread::Senseless(_))), "{found:?}"),
-                }
-            }
+            let found = message(&Always { code, row, count }, &[0; 60]);
+            assert!(matches!(found, Err(Unread::Senseless(_))), "{found:?}");
         }
+        let (code, row, count) = (code::REQUEST, descriptor(40), 1);
+        assert!(message(&Always { code, row, count }, &[0; 60]).is_ok());
     }
 }

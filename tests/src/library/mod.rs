@@ -1,22 +1,25 @@
 //! The functions that the product's archive offers, with slices in the place of
-//! pointers and lengths, and two libraries that have them: the paper's own, and
-//! the archive.
+//! pointers and lengths, and the libraries that have them: the paper's own, the
+//! archive, and one whose reading is written by hand for speed.
 
 #[cfg(feature = "archive")]
 mod archive;
+mod by_hand;
 mod by_paper;
 pub mod machine;
 mod message;
 
 #[cfg(feature = "archive")]
 pub use archive::Archive;
+pub use by_hand::ByHand;
 pub use by_paper::ByPaper;
 pub use message::{message, Unread};
 
 use crate::paper::Draft;
 
 /// Every function gives an outcome: the answer in its low 8 bits, and above them
-/// the length written. A reader writes no length, and a refusal has length 0.
+/// the length written, or of `read_all` the count of parts. The other readers have
+/// 0 there, and so has a refusal.
 pub trait Library {
     /// The writer of the draft's code.
     fn write(&self, draft: &Draft, out: &mut [u8]) -> u64;
@@ -30,41 +33,38 @@ pub trait Library {
     /// the body. Less room for them is 9, before all.
     fn read(&self, frame: &[u8], header: &mut [u64]) -> u64;
 
-    /// Stores the octet after the part at octet `at`, then the part's numbers,
-    /// and answers by its kind.
-    fn part(&self, frame: &[u8], at: usize, part: &mut [u64]) -> u64;
+    /// Stores the header as `read` does, and the parts of the body in order, each
+    /// as a row of `ROW` numbers: its kind, the octet after it, its own numbers,
+    /// zeros. TLVs that are skipped are no parts. The first `first` parts are passed
+    /// over, and of the others as many are stored as whole rows have room. Less room
+    /// for the header is 9, before all.
+    fn read_all(&self, frame: &[u8], first: usize, header: &mut [u64], rows: &mut [u64]) -> u64;
 }
 
 /// Values that `read` stores.
 pub const HEADER: usize = 4;
-/// The room that `part` asks for.
-pub const PART: usize = 10;
+/// Values in a row that `read_all` stores.
+pub const ROW: usize = 9;
 
-/// What `part` answers.
+/// The kinds of parts: the first number of a row.
 pub mod kind {
-    /// The frame is refused or has no list, or the room is too small.
-    pub const NONE: u8 = 0;
-    pub const END: u8 = 1;
-    pub const BROKEN: u8 = 2;
-    pub const SKIPPED: u8 = 3;
-    pub const LOCAL: u8 = 4;
-    pub const REMOTE: u8 = 5;
-    pub const EVENT: u8 = 6;
-    pub const DESCRIPTOR: u8 = 7;
+    pub const LOCAL: u64 = 32;
+    pub const REMOTE: u64 = 33;
+    pub const EVENT: u64 = 34;
+    pub const DESCRIPTOR: u64 = 35;
     /// A container: descriptor, the value's first octet, its width.
-    pub const VALUE: u8 = 8;
+    pub const VALUE: u64 = 36;
     /// A container: descriptor, the width octet as received.
-    pub const INDICATION: u8 = 9;
+    pub const INDICATION: u64 = 37;
 
-    pub const ALL: [u8; 10] = [
-        NONE, END, BROKEN, SKIPPED, LOCAL, REMOTE, EVENT, DESCRIPTOR, VALUE, INDICATION,
-    ];
+    pub const ALL: [u64; 6] = [LOCAL, REMOTE, EVENT, DESCRIPTOR, VALUE, INDICATION];
 }
 
 pub fn answer_of(outcome: u64) -> u8 {
     outcome as u8
 }
 
+/// The length written, or the count of parts.
 pub fn length_of(outcome: u64) -> usize {
     (outcome >> 8) as usize
 }

@@ -1,17 +1,35 @@
-//! The instructions of calls, counted by valgrind's tool callgrind, which writes a
-//! file for each.
+//! The instructions of calls, or of a whole program, counted by valgrind's tool
+//! callgrind, which writes a file for each.
 
 use super::instructions::{Told, Tool, COUNTED};
+use std::error::Error;
 use std::fs;
 use std::path::Path;
 use std::process::Command;
 
-/// Callgrind, about to write files of this name.
+pub const VALGRIND: &str = "valgrind";
+
+/// The words behind valgrind's name and before a program's, whose instructions are
+/// then told by this file.
+pub fn words(file: &Path) -> [String; 3] {
+    [
+        String::from("--tool=callgrind"),
+        String::from("--quiet"),
+        format!("--callgrind-out-file={}", file.display()),
+    ]
+}
+
+/// The instructions that a file tells.
+pub fn told(file: &Path) -> Result<u64, Box<dyn Error>> {
+    let text = fs::read_to_string(file)?;
+    Ok(total(&text).ok_or("a file of callgrind has no count")?)
+}
+
+/// Callgrind, about to write files of this name, one for each counted call.
 pub(super) fn tool(files: &Path) -> Tool {
-    let mut command = Command::new("valgrind");
+    let mut command = Command::new(VALGRIND);
     command
-        .args(["--tool=callgrind", "--quiet"])
-        .arg(format!("--callgrind-out-file={}", files.display()))
+        .args(words(files))
         .arg(format!("--toggle-collect={COUNTED}"))
         .arg(format!("--dump-after={COUNTED}"));
     Tool {
@@ -25,10 +43,10 @@ pub(super) fn tool(files: &Path) -> Tool {
 fn dumped(files: &Path) -> Told {
     let mut counts = Vec::new();
     loop {
-        let number = (counts.len() + 1).to_string();
-        match fs::read_to_string(files.with_extension(number)) {
-            Ok(text) => counts.push(total(&text).ok_or("a file of callgrind has no count")?),
-            Err(_) => return Ok(counts),
+        let file = files.with_extension((counts.len() + 1).to_string());
+        match file.exists() {
+            true => counts.push(told(&file)?),
+            false => return Ok(counts),
         }
     }
 }

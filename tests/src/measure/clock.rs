@@ -9,50 +9,72 @@ pub const RUN: Duration = Duration::from_millis(2);
 
 /// Nanoseconds that a call of each takes in its quickest run. The runs alternate,
 /// so that both meet the same moods of the machine.
-pub fn times<A, B>(
+pub fn times<A, B>(runs: usize, first: impl FnMut() -> A, second: impl FnMut() -> B) -> [f64; 2] {
+    let start = Instant::now();
+    times_by(&|| start.elapsed(), runs, first, second)
+}
+
+/// The same by any clock.
+fn times_by<A, B>(
+    clock: &impl Fn() -> Duration,
     runs: usize,
     mut first: impl FnMut() -> A,
     mut second: impl FnMut() -> B,
 ) -> [f64; 2] {
-    let calls = [filling(&mut first), filling(&mut second)];
+    let calls = [filling(clock, &mut first), filling(clock, &mut second)];
     let mut quickest = [Duration::MAX; 2];
     for _ in 0..runs {
-        quickest[0] = quickest[0].min(time(&mut first, calls[0]));
-        quickest[1] = quickest[1].min(time(&mut second, calls[1]));
+        quickest[0] = quickest[0].min(time(clock, &mut first, calls[0]));
+        quickest[1] = quickest[1].min(time(clock, &mut second, calls[1]));
     }
     [0, 1].map(|side| quickest[side].as_secs_f64() * 1e9 / f64::from(calls[side]))
 }
 
 /// How many calls fill a run.
-fn filling<T>(call: &mut impl FnMut() -> T) -> u32 {
+fn filling<T>(clock: &impl Fn() -> Duration, call: &mut impl FnMut() -> T) -> u32 {
     let mut calls = 1;
-    while time(call, calls) < RUN {
+    while time(clock, call, calls) < RUN {
         calls *= 2;
     }
     calls
 }
 
-fn time<T>(call: &mut impl FnMut() -> T, calls: u32) -> Duration {
-    let start = Instant::now();
+fn time<T>(clock: &impl Fn() -> Duration, call: &mut impl FnMut() -> T, calls: u32) -> Duration {
+    let start = clock();
     for _ in 0..calls {
         black_box(call());
     }
-    start.elapsed()
+    clock() - start
 }
 
 #[cfg(test)]
 mod tests {
     use super::*;
+    use std::cell::Cell;
 
-    fn work(steps: u32) -> u32 {
-        (0..steps).fold(1, |sum, step| black_box(sum ^ step))
+    /// A clock that only the calls move: the machine's own has moods.
+    #[test]
+    fn the_quickest_run_of_each_is_told() {
+        let clock = Cell::new(Duration::ZERO);
+        let take = |nanoseconds| clock.set(clock.get() + Duration::from_nanos(nanoseconds));
+        let mut calls = 0;
+        let steady = || take(100);
+        let hindered = || {
+            calls += 1;
+            take(if calls % 70_000 < 60_000 {
+                5_000
+            } else {
+                2_000
+            });
+        };
+        let times = times_by(&|| clock.get(), 200, steady, hindered);
+        assert_eq!(times, [100.0, 2_000.0]);
     }
 
-    /// The bounds are wide: the processor may have others to serve.
     #[test]
-    fn twenty_times_the_work_takes_some_twenty_times_as_long() {
-        let [short, long] = times(20, || work(100), || work(2_000));
-        let ratio = long / short;
-        assert!((4.0..100.0).contains(&ratio), "{short} ns and {long} ns");
+    fn a_run_has_as_many_calls_as_fill_it() {
+        let clock = Cell::new(Duration::ZERO);
+        let mut call = || clock.set(clock.get() + RUN / 5);
+        assert_eq!(filling(&|| clock.get(), &mut call), 8);
     }
 }

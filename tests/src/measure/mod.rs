@@ -1,7 +1,7 @@
 //! Measuring calls: their time, their stack and their instructions, and the size
 //! of the archive that holds them.
 
-mod callgrind;
+pub mod callgrind;
 pub mod clock;
 pub mod emulator;
 pub mod instructions;

@@ -20,7 +20,7 @@ pub(crate) mod tests;
 pub use draft::{Draft, DraftBody, WRITTEN};
 pub use message::{code, Body, Container, Content, Descriptor, Event, Information, Message, Part};
 pub use numbers::{joined, parted, NUMBERS};
-pub use part::{list_start, part_at, Listed, Standing};
+pub use part::{list, list_start, Listed, Standing, MOST_PARTS};
 pub use plain::is_plain;
 pub use read::{
     check, read, Heading, BODY, DESTINATION, LONGEST, SHORTEST, SLOW_PROTOCOLS, SUBTYPE,

@@ -1,11 +1,11 @@
-//! One part of a list by its place in the frame, for a caller who walks the
-//! list on his own.
+//! The parts of a frame's list with their places, for a caller who goes back to
+//! the frame.
 
 use super::message::{code, Container, Content, Descriptor, Event, Part};
-use super::read::BODY;
+use super::read::{BODY, LONGEST};
 use super::walk;
 
-/// A part that stands at a place, and the octet after it.
+/// A part, and the octet of the frame after it.
 #[derive(Clone, Copy, Debug, PartialEq, Eq)]
 pub struct Standing {
     pub part: Listed,
@@ -33,6 +33,9 @@ pub enum Listed {
     },
 }
 
+/// The most parts of a frame: descriptors, which are the shortest.
+pub const MOST_PARTS: usize = (LONGEST - BODY) / 3;
+
 /// Where a code's list begins; Loopback and organization specific have none.
 pub fn list_start(code: u8) -> Option<usize> {
     match code {
@@ -42,11 +45,21 @@ pub fn list_start(code: u8) -> Option<usize> {
     }
 }
 
-/// What stands at octet `at` of a frame of this code, be it a part's first octet
-/// or any other: a part, nothing where a list would end, or answer 6. The
-/// frame's end ends a list, and behind it there is nothing either.
-pub fn part_at(code: u8, frame: &[u8], at: usize) -> Result<Option<Standing>, u8> {
-    let mut rest = frame.get(at..).unwrap_or_default();
+/// All that the list of an accepted frame holds, in order, skipped TLVs too.
+pub fn list(code: u8, frame: &[u8]) -> Vec<Standing> {
+    let mut parts = Vec::new();
+    let mut at = list_start(code).unwrap_or(frame.len());
+    while let Ok(Some(standing)) = part_at(code, frame, at) {
+        at = standing.next;
+        parts.push(standing);
+    }
+    parts
+}
+
+/// What stands at octet `at` of a frame of this code: a part, nothing where the
+/// list ends, or answer 6.
+fn part_at(code: u8, frame: &[u8], at: usize) -> Result<Option<Standing>, u8> {
+    let mut rest = &frame[at..];
     let part = match code {
         code::INFORMATION => walk::next_information(&mut rest)?
             .map(|tlv| tlv.map_or(Listed::Skipped, Listed::Information)),

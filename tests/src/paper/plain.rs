@@ -1,7 +1,7 @@
 //! The plain form of a frame by its octets, told without writing it again.
 
 use super::message::{code, Information, Part};
-use super::part::{list_start, part_at, Listed};
+use super::part::{list, list_start, Listed};
 use super::read::{check, BODY, SHORTEST};
 use super::write::{PLAIN_DESCRIPTORS, PLAIN_EVENTS};
 
@@ -36,24 +36,15 @@ fn ends_at(frame: &[u8], end: usize) -> bool {
 }
 
 fn has_plain_list(code: u8, frame: &[u8]) -> bool {
-    let (parts, end) = list(code, frame);
+    let list = list(code, frame);
+    let end = list.last().map(|last| last.next).or(list_start(code));
+    let parts: Vec<Listed> = list.iter().map(|standing| standing.part).collect();
     let plain = match code {
         code::INFORMATION => are_plain_tlvs(&parts),
         code::NOTIFICATION => are_plain(&parts, PLAIN_EVENTS),
         _ => are_plain(&parts, PLAIN_DESCRIPTORS),
     };
-    plain && ends_at(frame, end)
-}
-
-/// All parts of an accepted frame's list, skipped ones too, and where it ends.
-fn list(code: u8, frame: &[u8]) -> (Vec<Listed>, usize) {
-    let mut parts = Vec::new();
-    let mut at = list_start(code).unwrap_or(frame.len());
-    while let Ok(Some(standing)) = part_at(code, frame, at) {
-        parts.push(standing.part);
-        at = standing.next;
-    }
-    (parts, at)
+    plain && end.is_some_and(|end| ends_at(frame, end))
 }
 
 /// No TLV, Local, or Local then Remote.

@@ -557,41 +557,31 @@ fn packages_are_read_by_the_same_flat_rule() {
     assert_eq!(answer_to(&format!("03 {package}")), 6);
 }
 
-// One part by its place.
+// The parts by their places.
+
+/// The parts of a list, each with the octet after it.
+fn places(code: u8, frame: &[u8]) -> Vec<(Listed, usize)> {
+    let list = list(code, frame);
+    list.iter().map(|s| (s.part, s.next)).collect()
+}
 
 #[test]
-fn a_part_is_shown_with_the_octet_after_it() {
+fn a_part_is_listed_with_the_octet_after_it() {
     let frame = frame(&format!("00 {LOCAL} 03 05 aabbcc {REMOTE}"));
-    let at = |at| part_at(code::INFORMATION, &frame, at);
-    let standing = |part, next| Ok(Some(Standing { part, next }));
-    let first = Listed::Information(Part::Local(local()));
-    let last = Listed::Information(Part::Remote(remote()));
-    assert_eq!(at(18), standing(first, 34));
-    assert_eq!(at(34), standing(Listed::Skipped, 39));
-    assert_eq!(at(39), standing(last, 55));
-    assert_eq!(at(55), Ok(None));
+    let expected = [
+        (Listed::Information(Part::Local(local())), 34),
+        (Listed::Skipped, 39),
+        (Listed::Information(Part::Remote(remote())), 55),
+    ];
+    assert_eq!(places(code::INFORMATION, &frame), expected);
 }
 
 #[test]
-fn any_place_of_a_frame_has_a_part_an_end_or_6() {
-    let frame = frame(&format!("00 {LOCAL}"));
-    let at = |at| part_at(code::INFORMATION, &frame, at);
-    assert_eq!(at(0), Err(6)); // type 01 of the destination, length 80
-    assert_eq!(at(3), Ok(None)); // zeros of the destination
-    assert_eq!(at(19), Err(6)); // type 10, length 1
-    assert_eq!(at(59), Ok(None)); // type 00 as the last octet
-    assert_eq!(at(60), Ok(None));
-    assert_eq!(at(61), Ok(None));
-    assert_eq!(at(usize::MAX), Ok(None));
-}
-
-#[test]
-fn a_containers_value_is_shown_by_its_place() {
+fn a_containers_value_is_listed_by_its_place() {
     let frame = frame(&format!(
         "03 07 0005 04 00001000 07 0006 a1 {}",
         "00".repeat(60)
     ));
-    let at = |at| part_at(code::RESPONSE, &frame, at);
     let value = Listed::Value {
         descriptor: Descriptor { branch: 7, leaf: 5 },
         at: 22,
@@ -601,10 +591,8 @@ fn a_containers_value_is_shown_by_its_place() {
         descriptor: Descriptor { branch: 7, leaf: 6 },
         width: 0xA1,
     };
-    let standing = |part, next| Ok(Some(Standing { part, next }));
-    assert_eq!(at(18), standing(value, 26));
-    assert_eq!(at(26), standing(indication, 30));
-    assert_eq!(at(30), Ok(None));
+    let expected = [(value, 26), (indication, 30)];
+    assert_eq!(places(code::RESPONSE, &frame), expected);
 }
 
 #[test]
@@ -615,11 +603,23 @@ fn a_width_of_00_takes_128_octets() {
         at: 22,
         width: 128,
     };
-    let standing = Standing {
-        part: whole,
-        next: 150,
-    };
-    assert_eq!(part_at(code::RESPONSE, &frame, 18), Ok(Some(standing)));
+    assert_eq!(places(code::RESPONSE, &frame), [(whole, 150)]);
+}
+
+#[test]
+fn no_frame_has_more_parts_than_descriptors_fill_it() {
+    let request = |count: usize| frame(&format!("02 {}", "070005".repeat(count)));
+    let full = request(MOST_PARTS);
+    assert!(read(&full).is_ok());
+    assert_eq!(list(code::REQUEST, &full).len(), MOST_PARTS);
+    assert_eq!(read(&request(MOST_PARTS + 1)), Err(answer::LENGTH));
+}
+
+#[test]
+fn a_code_without_a_list_has_no_parts() {
+    for code in [code::LOOPBACK, code::ORGANIZATION] {
+        assert_eq!(places(code, &frame(&format!("{code:02x} 01 0000"))), []);
+    }
 }
 
 #[test]
@@ -654,18 +654,4 @@ fn an_organizations_data_run_from_octet_21_to_the_end() {
         data: data.into(),
     };
     assert_eq!(body(&frame), Ok(expected));
-}
-
-#[test]
-fn check_answers_like_read() {
-    use crate::{generate::any_frame, random::Random};
-    let mut random = Random::new(11);
-    for _ in 0..20_000 {
-        let frame = any_frame(&mut random).frame;
-        let heading = read(&frame).map(|message| Heading {
-            code: message.body.code(),
-            flags: message.flags,
-        });
-        assert_eq!(check(&frame), heading);
-    }
 }

@@ -2,7 +2,7 @@
 //! `streaming` takes only the header from here, so that the two can be compared.
 
 use super::answer;
-use super::read::{read, Heading};
+use super::read::{check, Heading};
 
 /// The listing's first line.
 pub const HEADER: &str = "no\tcode\tflags\tanswer\n";
@@ -49,12 +49,7 @@ fn digit(character: u8) -> Result<u8, u8> {
 }
 
 fn answer_line(line: &[u8]) -> Result<Heading, u8> {
-    let frame = decode(line)?;
-    let message = read(&frame)?;
-    Ok(Heading {
-        code: message.body.code(),
-        flags: message.flags,
-    })
+    check(&decode(line)?)
 }
 
 fn row(number: u64, answer: Result<Heading, u8>) -> String {

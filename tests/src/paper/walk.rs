@@ -48,27 +48,6 @@ pub fn events(body: &[u8], mut found: impl FnMut(Event)) -> Result<(), u8> {
     Ok(())
 }
 
-/// The answer of `information` alone: types and lengths are looked at, no value.
-pub fn whole_information(body: &[u8]) -> Result<(), u8> {
-    let mut rest = body;
-    let (mut local, mut remote) = (false, false);
-    while let Some((kind, _)) = next_tlv(&mut rest, information_length)? {
-        match kind {
-            LOCAL => once(&mut local)?,
-            REMOTE => once(&mut remote)?,
-            _ => {}
-        }
-    }
-    Ok(())
-}
-
-/// The answer of `events` alone, in the same way.
-pub fn whole_events(body: &[u8]) -> Result<(), u8> {
-    let mut rest = body;
-    while next_tlv(&mut rest, event_length)?.is_some() {}
-    Ok(())
-}
-
 /// The list of code 02.
 pub fn descriptors(body: &[u8], mut found: impl FnMut(Descriptor)) -> Result<(), u8> {
     let mut rest = body;

@@ -22,14 +22,14 @@ struct Differing {
     shown: Vec<String>,
 }
 
-/// What came of a call.
-pub struct Called<T> {
+/// What came of a call to which `N` slices were lent.
+pub struct Called<T, const N: usize> {
     /// By the paper.
     pub outcome: u64,
     /// The library gave the same outcome and left the same memory.
     pub agreed: bool,
     /// The memory as the library left it.
-    pub lent: Lent<T>,
+    pub lent: [Lent<T>; N],
 }
 
 impl<'a> Contest<'a> {
@@ -42,28 +42,29 @@ impl<'a> Contest<'a> {
 
     /// Makes a call of the library and of the paper's, on equal memory. `what`
     /// tells with which values it was made.
-    pub fn call<T: Copy + PartialEq + Display + LowerHex>(
+    pub fn call<T: Copy + PartialEq + Display + LowerHex, const N: usize>(
         &mut self,
         function: &'static str,
-        lent: Lent<T>,
+        lent: [Lent<T>; N],
         what: impl FnOnce() -> String,
-        call: impl Fn(&dyn Library, &mut [T]) -> u64,
-    ) -> Called<T> {
+        call: impl Fn(&dyn Library, [&mut [T]; N]) -> u64,
+    ) -> Called<T, N> {
         let (mut expected_lent, mut found_lent) = (lent.clone(), lent);
-        let expected = call(&ByPaper, expected_lent.slice_mut());
-        let found = call(self.library, found_lent.slice_mut());
-        let stray = expected_lent.stray(&found_lent);
-        let agreed = expected == found && stray.is_none();
+        let expected = call(&ByPaper, expected_lent.each_mut().map(Lent::slice_mut));
+        let found = call(self.library, found_lent.each_mut().map(Lent::slice_mut));
+        let pairs = expected_lent.iter().zip(&found_lent);
+        let strays: Vec<String> = pairs.filter_map(stray_told).collect();
+        let agreed = expected == found && strays.is_empty();
         if !agreed {
-            let length = found_lent.len();
+            let lengths = found_lent.each_ref().map(|lent| lent.len().to_string());
             self.note(function, || {
-                let mut text = format!("{}, lent {length}", what());
+                let mut text = format!("{}, lent {}", what(), lengths.join(" and "));
                 if expected != found {
                     text += &format!("\n      expected {}", told(expected));
                     text += &format!("\n      found    {}", told(found));
                 }
-                if let Some(stray) = stray {
-                    text += &format!("\n      {}", place_told(&stray, length));
+                for stray in strays {
+                    text += &format!("\n      {stray}");
                 }
                 text
             });
@@ -100,6 +101,15 @@ fn told(outcome: u64) -> String {
     format!("answer {answer}, length {length}")
 }
 
+/// Where one lent memory differs from the other.
+fn stray_told<T>((expected, found): (&Lent<T>, &Lent<T>)) -> Option<String>
+where
+    T: Copy + PartialEq + Display + LowerHex,
+{
+    let stray = expected.stray(found)?;
+    Some(place_told(&stray, found.len()))
+}
+
 pub fn place_told<T: Display + LowerHex>(stray: &Stray<T>, length: usize) -> String {
     let (place, expected, found) = (stray.place, &stray.expected, &stray.found);
     let side = match usize::try_from(place) {
@@ -122,12 +132,12 @@ mod tests {
     #[test]
     fn equal_calls_agree() {
         let mut contest = Contest::new(&ByPaper);
-        let called = contest.call("call", numbers(), String::new, |_, slice| {
+        let called = contest.call("call", [numbers()], String::new, |_, [slice]| {
             slice[1] = 7;
             0x3C00
         });
         assert!(called.agreed && called.outcome == 0x3C00);
-        assert_eq!(called.lent.slice()[1], 7);
+        assert_eq!(called.lent[0].slice()[1], 7);
         assert!(contest.faults().is_empty());
     }
 
@@ -139,9 +149,9 @@ mod tests {
         for _ in 0..5 {
             let called = contest.call(
                 "call",
-                numbers(),
+                [numbers(), numbers()],
                 || "with 3".into(),
-                |_, slice| {
+                |_, [_, slice]| {
                     times.set(times.get() + 1);
                     slice[2] = times.get() % 2;
                     times.get() % 2
@@ -151,7 +161,7 @@ mod tests {
         }
         let faults = contest.faults();
         assert_eq!(faults.len(), 1);
-        assert!(faults[0].starts_with("call: 5 times, first\n    with 3, lent 4\n"));
+        assert!(faults[0].starts_with("call: 5 times, first\n    with 3, lent 4 and 4\n"));
         assert!(faults[0].contains("expected answer 1, length 0\n      found    answer 0"));
         assert!(faults[0].contains("at 2: expected 1 (0x1), found 0 (0x0)"));
         assert_eq!(faults[0].matches("with 3").count(), SHOWN);

@@ -81,7 +81,7 @@ impl<'a> Trial<'a> {
         let what = || format!("\"{}\"", text.escape_ascii());
         let called = self
             .contest
-            .call("oam_log_read", lent, what, |library, values| {
+            .call("oam_log_read", [lent], what, |library, [values]| {
                 library.log_read(text, values)
             });
         answer_of(called.outcome)
@@ -107,7 +107,7 @@ impl<'a> Trial<'a> {
             let what = || format!("number {number}, position {position}, event {event:?}");
             let called = self
                 .contest
-                .call("oam_log_write", lent, what, |library, out| {
+                .call("oam_log_write", [lent], what, |library, [out]| {
                     library.log_write(number, position, event, out)
                 });
             let answer = answer_of(called.outcome);
@@ -116,7 +116,7 @@ impl<'a> Trial<'a> {
                 return; // the same entry would only differ again
             }
             if answer == answer::ACCEPTED {
-                let line = &called.lent.slice()[..length_of(called.outcome)];
+                let line = &called.lent[0].slice()[..length_of(called.outcome)];
                 self.read_back(line, entry);
             }
         }

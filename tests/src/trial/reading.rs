@@ -1,18 +1,15 @@
-//! Reading: frames of all makers, each by its header, by its parts in order, and
-//! from places where no part begins.
+//! Reading: frames of all makers, each by its header, by its header and all its
+//! parts, and by some of its parts into slices of other lengths.
 
-use super::contest::Contest;
+use super::contest::{Called, Contest};
 use super::lent::Lent;
 use super::report::{Report, Tally};
 use super::THIS_PACKAGE;
 use crate::compare::{from_difference, hex};
 use crate::generate::{any_frame, every_frame, Made};
-use crate::library::{answer_of, kind, message, Library, Unread, HEADER, PART};
-use crate::paper::{answer, code, list_start, read};
+use crate::library::{answer_of, kind, length_of, message, ByPaper, Library, Unread, HEADER, ROW};
+use crate::paper::{answer, code, read};
 use crate::random::Random;
-
-/// Places tried in each frame besides those where its parts begin.
-const PLACES: usize = 6;
 
 /// Tries `frames` frames, or more where the sets that are gone through to the
 /// last one hold more.
@@ -29,33 +26,82 @@ pub fn reading(library: &dyn Library, seed: u64, frames: usize) -> Report {
     trial.report()
 }
 
+/// The first part that is asked for.
+#[derive(Clone, Copy, Debug, PartialEq, Eq, PartialOrd, Ord)]
+enum First {
+    Zero,
+    One,
+    Any,
+    Last,
+    BehindLast,
+    Greatest,
+}
+
+impl First {
+    const ALL: [First; 6] = [
+        First::Zero,
+        First::One,
+        First::Any,
+        First::Last,
+        First::BehindLast,
+        First::Greatest,
+    ];
+
+    /// Its number in a frame of so many parts.
+    fn of(self, random: &mut Random, count: usize) -> usize {
+        match self {
+            First::Zero => 0,
+            First::One => 1,
+            First::Any => random.below(count + 1),
+            First::Last => count.saturating_sub(1),
+            First::BehindLast => count + random.below(3),
+            First::Greatest => usize::MAX,
+        }
+    }
+}
+
+/// Numbers that are lent for rows. `None` stands for all rows' numbers and up to
+/// two rows' more.
+const ROOMS: [Option<usize>; 7] = [
+    Some(0),
+    Some(ROW - 1),
+    Some(ROW),
+    Some(ROW + 1),
+    Some(2 * ROW - 1),
+    Some(2 * ROW),
+    None,
+];
+
+/// Only frames with so many parts count as asked for their rows in some way.
+const SOME_PARTS: usize = 3;
+
 struct Trial<'a> {
     contest: Contest<'a>,
     random: Random,
     answers: Tally<u8>,
     codes: Tally<u8>,
-    /// Kinds of parts, in order and from any place.
-    walked: Tally<u8>,
-    anywhere: Tally<u8>,
-    /// Slices for a header and for a part that are too short.
+    answers_of_all: Tally<u8>,
+    kinds: Tally<u64>,
+    rooms: Tally<(First, Option<usize>)>,
+    /// Slices for a header, too short for `read`, and all lengths for `read_all`.
     short_headers: Tally<usize>,
-    short_parts: Tally<usize>,
+    headers: Tally<usize>,
 }
 
 impl<'a> Trial<'a> {
     fn new(library: &'a dyn Library, seed: u64) -> Self {
-        let in_order = kind::ALL
-            .into_iter()
-            .filter(|kind| ![kind::NONE, kind::BROKEN].contains(kind));
+        let pairs = |first| ROOMS.map(|room| (first, room));
+        let answers = answer::ACCEPTED..=answer::OUTPUT;
         Trial {
             contest: Contest::new(library),
             random: Random::new(seed),
-            answers: Tally::expecting(answer::ACCEPTED..=answer::OUTPUT),
+            answers: Tally::expecting(answers.clone()),
             codes: Tally::expecting(code::ALL),
-            walked: Tally::expecting(in_order),
-            anywhere: Tally::expecting(kind::ALL),
+            answers_of_all: Tally::expecting(answers),
+            kinds: Tally::expecting(kind::ALL),
+            rooms: Tally::expecting(First::ALL.into_iter().flat_map(pairs)),
             short_headers: Tally::expecting(0..HEADER),
-            short_parts: Tally::expecting(0..PART),
+            headers: Tally::expecting(0..=HEADER + 1),
         }
     }
 
@@ -65,15 +111,11 @@ impl<'a> Trial<'a> {
         }
         let frame = &made.frame;
         self.header(frame);
-        if let Ok(message) = read(frame) {
-            let code = message.body.code();
-            self.codes.count(code);
-            if let Some(start) = list_start(code) {
-                self.walk(frame, start);
-            }
-        }
-        self.places(frame);
+        self.rows(frame);
         self.message(frame);
+        if let Ok(message) = read(frame) {
+            self.codes.count(message.body.code());
+        }
     }
 
     /// The header into a slice that just holds it, into a longer one, and into
@@ -86,64 +128,66 @@ impl<'a> Trial<'a> {
             let what = || format!("{} octets {}", frame.len(), hex(frame));
             let called = self
                 .contest
-                .call("oam_read", lent, what, |library, header| {
+                .call("oam_read", [lent], what, |library, [header]| {
                     library.read(frame, header)
                 });
             self.answers.count(answer_of(called.outcome));
         }
     }
 
-    /// Every part of an accepted frame's list, and its end.
-    fn walk(&mut self, frame: &[u8], start: usize) {
-        let mut at = start;
-        loop {
-            let room = PART + self.random.below(3);
-            let (kind, next) = self.part(frame, at, room);
-            self.walked.count(kind);
-            let Some(next) = next else {
-                return;
-            };
-            at = next;
+    /// All rows, a header of any length, and rows from each first part on into any
+    /// room. A frame without parts is asked from two places only.
+    fn rows(&mut self, frame: &[u8]) {
+        let count = self.all_rows(frame);
+        let header = self.random.below(HEADER + 2);
+        self.headers.count(header);
+        let (_, length) = self.room(count);
+        self.read_all(frame, 0, [header, length]);
+        let firsts: &[First] = match count {
+            0 => &[First::Any, First::Greatest],
+            _ => &First::ALL,
+        };
+        for &first in firsts {
+            let (room, length) = self.room(count);
+            let header = HEADER + self.random.below(2);
+            let number = first.of(&mut self.random, count);
+            self.read_all(frame, number, [header, length]);
+            if count >= SOME_PARTS {
+                self.rooms.count((first, room));
+            }
         }
     }
 
-    /// Any places, and a slice that is too short.
-    fn places(&mut self, frame: &[u8]) {
-        for _ in 0..PLACES {
-            let at = self.place(frame.len());
-            let room = PART + self.random.below(3);
-            let (kind, _) = self.part(frame, at, room);
-            self.anywhere.count(kind);
-        }
-        let (at, short) = (self.place(frame.len()), self.random.below(PART));
-        self.short_parts.count(short);
-        self.part(frame, at, short);
+    /// A room for rows of so many parts, and its length.
+    fn room(&mut self, count: usize) -> (Option<usize>, usize) {
+        let room = self.random.pick(&ROOMS);
+        let all = ROW * count + self.random.below(2 * ROW + 1);
+        (room, room.unwrap_or(all))
     }
 
-    /// A place in the frame, at its end, or far behind it.
-    fn place(&mut self, length: usize) -> usize {
-        match self.random.below(12) {
-            0 => length,
-            1 => length + self.random.below(300),
-            2 => usize::MAX - self.random.below(300),
-            3 => length.saturating_sub(self.random.between(1, 5)),
-            4..=6 => self.random.between(17, 60),
-            _ => self.random.below(length + 1),
+    /// Stores all rows in as much room as they take, and gives their count, by the
+    /// paper.
+    fn all_rows(&mut self, frame: &[u8]) -> usize {
+        let count = length_of(ByPaper.read_all(frame, 0, &mut [0; HEADER], &mut []));
+        let called = self.read_all(frame, 0, [HEADER, ROW * count]);
+        if called.agreed {
+            let rows = called.lent[1].slice().chunks(ROW);
+            rows.for_each(|row| self.kinds.count(row[0]));
         }
+        count
     }
 
-    /// The part at a place: its kind by the paper, and the octet after it where
-    /// the list goes on and the two agree.
-    fn part(&mut self, frame: &[u8], at: usize, room: usize) -> (u8, Option<usize>) {
-        let lent = Lent::numbers(&mut self.random, room);
-        let what = || format!("at octet {at} of {} {}", frame.len(), hex(frame));
-        let called = self.contest.call("oam_part", lent, what, |library, part| {
-            library.part(frame, at, part)
-        });
-        let kind = answer_of(called.outcome);
-        let goes_on = called.agreed && kind > kind::BROKEN;
-        let next = goes_on.then(|| called.lent.slice()[0] as usize);
-        (kind, next)
+    /// Rows from a first part on, with slices of these lengths for header and rows.
+    fn read_all(&mut self, frame: &[u8], first: usize, lengths: [usize; 2]) -> Called<u64, 2> {
+        let lent = lengths.map(|length| Lent::numbers(&mut self.random, length));
+        let what = || format!("from part {first} of {} octets {}", frame.len(), hex(frame));
+        let called = self
+            .contest
+            .call("oam_read_all", lent, what, |library, [header, rows]| {
+                library.read_all(frame, first, header, rows)
+            });
+        self.answers_of_all.count(answer_of(called.outcome));
+        called
     }
 
     /// The whole frame through the library alone, beside `paper::read`.
@@ -170,14 +214,16 @@ impl<'a> Trial<'a> {
         report.add("accepted frames", &self.codes, |code| {
             format!("of code {code:02X}")
         });
-        let title = "calls of oam_part in order";
-        report.add(title, &self.walked, |kind| format!("answered {kind}"));
-        let title = "calls of oam_part at any place";
-        report.add(title, &self.anywhere, |kind| format!("answered {kind}"));
+        report.add("calls of oam_read_all", &self.answers_of_all, |answer| {
+            format!("answered {answer}")
+        });
+        report.add("rows", &self.kinds, |kind| format!("of kind {kind}"));
+        let title = "ways to ask for rows of frames with three parts or more";
+        report.add_many(title, &self.rooms, |pair| format!("{pair:?}"));
         let title = "lengths too short for a header";
         report.add_many(title, &self.short_headers, usize::to_string);
-        let title = "lengths too short for a part";
-        report.add_many(title, &self.short_parts, usize::to_string);
+        let title = "lengths of a header beside rows";
+        report.add_many(title, &self.headers, usize::to_string);
         report
     }
 }

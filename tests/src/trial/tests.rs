@@ -2,8 +2,11 @@
 //! the trial that is there for it.
 
 use super::*;
-use crate::library::{answer_of, kind, ByPaper, Library, HEADER, PART};
-use crate::paper::{answer, check, code, log::FIELDS, Draft, DraftBody, LONGEST, PLAIN_EVENTS};
+use crate::library::{answer_of, kind, length_of, ByHand, ByPaper, Library, HEADER, ROW};
+use crate::paper::{
+    answer, code, list, log::FIELDS, Draft, DraftBody, Listed, BODY, MOST_PARTS, PLAIN_EVENTS,
+    SHORTEST,
+};
 
 const SEED: u64 = 57;
 
@@ -17,6 +20,12 @@ fn the_papers_library_passes() {
         assert!(report.faults.is_empty(), "{:#?}", report.faults);
         assert!(!report.counts.is_empty());
     }
+}
+
+#[test]
+fn the_hand_written_reading_passes() {
+    let report = reading(&ByHand, SEED, 60_000);
+    assert!(report.faults.is_empty(), "{:#?}", report.faults);
 }
 
 #[test]
@@ -65,32 +74,48 @@ fn each_slip_in_writing_is_found() {
 #[test]
 fn each_slip_in_reading_is_found() {
     use Slip::*;
-    for (slip, function) in [
-        (StoresRefusedHeader, "oam_read"),
-        (StoresBehindHeader, "oam_read"),
-        (MasksReadFlags, "oam_read"),
-        (TakesShortHeader, "oam_read"),
-        (NextOffByOne, "oam_part"),
-        (StandsStill, "oam_part"),
-        (StoresBehindPart, "oam_part"),
-        (StoresAtEnd, "oam_part"),
-        (WidthAsReceived, "oam_part"),
-        (BrokenBehindFrame, "oam_part"),
-        (TakesRefusedFrame, "oam_part"),
-        (TakesShortPart, "oam_part"),
+    const BOTH: &[&str] = &["oam_read", "oam_read_all"];
+    const ALL: &[&str] = &["oam_read_all"];
+    for (slip, functions) in [
+        (StoresRefusedHeader, BOTH),
+        (StoresBehindHeader, BOTH),
+        (MasksReadFlags, BOTH),
+        (TakesShortHeader, BOTH),
+        (FrameBeforeHeader, ALL),
+        (HeaderOnlyWithRows, ALL),
+        (StoresRefusedRows, ALL),
+        (StoresBehindRows, ALL),
+        (StoresCutRow, ALL),
+        (KeepsRowEnd, ALL),
+        (StoresAtOwnPlace, ALL),
+        (RefusesShortRows, ALL),
+        (CountsFromFirst, ALL),
+        (CountsStored, ALL),
+        (CountsSkipped, ALL),
+        (CountsIn8Bits, ALL),
+        (FirstIn8Bits, ALL),
+        (FirstCountsSkipped, ALL),
+        (GreatestFirstIsNone, ALL),
+        (NextOffByOne, ALL),
+        (WidthAsReceived, ALL),
+        (WidthBeforeStart, ALL),
+        (StartInBody, ALL),
+        (RemoteAsLocal, ALL),
     ] {
         let found = differing(reading, 0, slip);
-        assert!(
-            found.iter().any(|name| name == function),
-            "{slip:?}: {found:?}"
-        );
+        for function in functions {
+            assert!(
+                found.iter().any(|name| name == function),
+                "{slip:?} in {function}: {found:?}"
+            );
+        }
     }
 }
 
 /// Slips in reading are seen from the writers' side too.
 #[test]
 fn a_slip_in_reading_is_found_where_frames_are_read_back() {
-    for slip in [Slip::NextOffByOne, Slip::StandsStill] {
+    for slip in [Slip::NextOffByOne, Slip::RemoteAsLocal] {
         let found = differing(writers, 200, slip);
         let again = "a frame, read and written again";
         let back = "what was written, read back";
@@ -143,14 +168,26 @@ enum Slip {
     StoresBehindHeader,
     MasksReadFlags,
     TakesShortHeader,
+    FrameBeforeHeader,
+    HeaderOnlyWithRows,
+    StoresRefusedRows,
+    StoresBehindRows,
+    StoresCutRow,
+    KeepsRowEnd,
+    StoresAtOwnPlace,
+    RefusesShortRows,
+    CountsFromFirst,
+    CountsStored,
+    CountsSkipped,
+    CountsIn8Bits,
+    FirstIn8Bits,
+    FirstCountsSkipped,
+    GreatestFirstIsNone,
     NextOffByOne,
-    StandsStill,
-    StoresBehindPart,
-    StoresAtEnd,
     WidthAsReceived,
-    BrokenBehindFrame,
-    TakesRefusedFrame,
-    TakesShortPart,
+    WidthBeforeStart,
+    StartInBody,
+    RemoteAsLocal,
     TakesLeadingZero,
     TakesCarriageReturn,
     TakesNoNewline,
@@ -230,41 +267,122 @@ impl Library for Slipping {
             return ByPaper.read(frame, &mut [0; HEADER]);
         }
         let outcome = ByPaper.read(frame, header);
-        match (self.0, answer_of(outcome)) {
+        self.slip_in_header(answer_of(outcome), header);
+        outcome
+    }
+
+    fn read_all(&self, frame: &[u8], first: usize, header: &mut [u64], rows: &mut [u64]) -> u64 {
+        match self.0 {
+            Slip::TakesShortHeader if header.len() == HEADER - 1 => {
+                return ByPaper.read_all(frame, first, &mut [0; HEADER], rows)
+            }
+            Slip::FrameBeforeHeader if header.len() < HEADER => {
+                let of_frame = ByPaper.read(frame, &mut [0; HEADER]);
+                return match answer_of(of_frame) {
+                    answer::ACCEPTED => answer::OUTPUT.into(),
+                    _ => of_frame,
+                };
+            }
+            Slip::HeaderOnlyWithRows if rows.len() < ROW => {
+                let header = &mut header.to_vec();
+                return ByPaper.read_all(frame, first, header, rows);
+            }
+            Slip::RefusesShortRows if rows.len() < ROW => return answer::OUTPUT.into(),
+            _ => {}
+        }
+        let before = rows.to_vec();
+        let asked = self.first_asked(frame, first);
+        let outcome = ByPaper.read_all(frame, asked, header, rows);
+        self.slip_in_header(answer_of(outcome), header);
+        if answer_of(outcome) != answer::ACCEPTED {
+            if self.0 == Slip::StoresRefusedRows && !rows.is_empty() {
+                rows[0] = 0;
+            }
+            return outcome;
+        }
+        let count = length_of(outcome);
+        let stored = count.saturating_sub(asked).min(rows.len() / ROW);
+        self.slip_in_rows(frame, asked, stored, rows, &before);
+        let told = match self.0 {
+            Slip::CountsFromFirst => count.saturating_sub(first),
+            Slip::CountsStored => stored,
+            Slip::CountsSkipped => list(frame[17], frame).len(),
+            Slip::CountsIn8Bits => count & 0xFF,
+            _ => count,
+        };
+        (told as u64) << 8
+    }
+}
+
+impl Slipping {
+    fn slip_in_header(&self, answer: u8, header: &mut [u64]) {
+        match (self.0, answer) {
             (Slip::StoresRefusedHeader, answer::BROKEN) => header[0] = 0,
             (Slip::StoresBehindHeader, answer::ACCEPTED) => header[HEADER..].fill(0),
             (Slip::MasksReadFlags, answer::ACCEPTED) => header[1] &= 0x7F,
             _ => {}
         }
-        outcome
     }
 
-    fn part(&self, frame: &[u8], at: usize, part: &mut [u64]) -> u64 {
+    /// The number of the first part as it is taken.
+    fn first_asked(&self, frame: &[u8], first: usize) -> usize {
         match self.0 {
-            Slip::TakesShortPart if part.len() == PART - 1 => {
-                return ByPaper.part(frame, at, &mut [0; PART])
+            Slip::FirstIn8Bits => first & 0xFF,
+            Slip::GreatestFirstIsNone if first == usize::MAX => 0,
+            Slip::FirstCountsSkipped if frame.len() >= SHORTEST => {
+                let passed = list(frame[17], frame).into_iter().take(first);
+                let skipped = passed.filter(|standing| standing.part == Listed::Skipped);
+                first - skipped.count()
             }
-            Slip::TakesRefusedFrame if check(frame) == Err(answer::COMMAND) => {
-                return kind::END.into()
-            }
-            Slip::BrokenBehindFrame if at > LONGEST => return kind::BROKEN.into(),
-            _ => {}
+            _ => first,
         }
-        let outcome = ByPaper.part(frame, at, part);
-        let kind = answer_of(outcome);
-        match self.0 {
-            Slip::NextOffByOne if kind > kind::BROKEN => part[0] += 1,
-            Slip::StandsStill if kind > kind::BROKEN => part[0] = at as u64,
-            Slip::StoresBehindPart if kind > kind::BROKEN => part[PART - 1] = 0,
-            Slip::StoresAtEnd if kind == kind::END => part[0] = at as u64,
-            Slip::WidthAsReceived if kind == kind::VALUE => part[3] &= 0x7F,
-            _ => {}
-        }
-        outcome
     }
-}
 
-impl Slipping {
+    /// Changes what was stored, so many rows from a first one on.
+    fn slip_in_rows(
+        &self,
+        frame: &[u8],
+        first: usize,
+        stored: usize,
+        rows: &mut [u64],
+        before: &[u64],
+    ) {
+        match self.0 {
+            Slip::StoresBehindRows => rows[ROW * stored..].fill(0),
+            Slip::StoresCutRow => {
+                let mut longer = [before, &[0; ROW]].concat();
+                ByPaper.read_all(frame, first, &mut [0; HEADER], &mut longer);
+                rows.copy_from_slice(&longer[..rows.len()]);
+            }
+            Slip::StoresAtOwnPlace => {
+                let mut all = [before, &[0; ROW * MOST_PARTS]].concat();
+                ByPaper.read_all(frame, 0, &mut [0; HEADER], &mut all);
+                let kept = rows.len().min(ROW.saturating_mul(first));
+                all[..kept].copy_from_slice(&before[..kept]);
+                let end = rows.len() / ROW * ROW;
+                rows[..end].copy_from_slice(&all[..end]);
+            }
+            _ => {
+                let rows = rows.chunks_exact_mut(ROW).zip(before.chunks(ROW));
+                for (row, before) in rows.take(stored) {
+                    self.slip_in_row(row, before);
+                }
+            }
+        }
+    }
+
+    fn slip_in_row(&self, row: &mut [u64], before: &[u64]) {
+        match (self.0, row[0]) {
+            (Slip::KeepsRowEnd, kind::DESCRIPTOR) => row[3..].copy_from_slice(&before[3..]),
+            (Slip::NextOffByOne, _) => row[1] += 1,
+            (Slip::WidthAsReceived, kind::VALUE) => row[4] &= 0x7F,
+            (Slip::WidthBeforeStart, kind::VALUE) => row.swap(3, 4),
+            (Slip::StartInBody, kind::VALUE) => row[3] -= BODY as u64,
+            (Slip::RemoteAsLocal, kind::REMOTE) => row[0] = kind::LOCAL,
+            _ => {}
+        }
+    }
+
     /// The draft as a writer takes it that loses what is beyond a field.
     fn masked(&self, draft: &Draft) -> Draft {
         let mut draft = draft.clone();

@@ -68,9 +68,9 @@ impl<'a> Trial<'a> {
             let lent = Lent::octets(&mut self.random, length);
             let called = self.contest.call(
                 writer_name(code),
-                lent,
+                [lent],
                 || made.draft.to_string(),
-                |library, out| library.write(&made.draft, out),
+                |library, [out]| library.write(&made.draft, out),
             );
             let answer = answer_of(called.outcome);
             self.answers.count((code, answer));
@@ -79,7 +79,7 @@ impl<'a> Trial<'a> {
                 return; // the same draft would only differ again
             }
             if let (Room::Exact, DraftClaim::Written(meant)) = (room, &made.claim) {
-                self.read_back(called.lent.slice(), meant);
+                self.read_back(called.lent[0].slice(), meant);
             }
         }
     }

@@ -1,5 +1,5 @@
--- `packing::unpack` meets its contract.
 use borrow.Author.Needs.{needs}
+use mathlib.Core.Path.{_∙_, sym}
 use borrow.Author.Tests.{eq-eqb, ne-eqb}
 use Rattle.packing.specs.Octets.{unpacked}
 use Rattle.packing.proofs.unpack.Statement.{statement}
@@ -7,14 +7,15 @@ use Rattle.packing.proofs.unpack.Tie as tie
 
 returns : tie.Need-returns
 unfolding unpacked
-returns c = rw (ne-eqb _ _ (c .if1 .taken))
-
-end-in-requires : tie.Need-end-in-requires
-end-in-requires c κs = search needs
+returns c = simp (ne-eqb _ _ (c .if1 .taken))
 
 returns-2 : tie.Need-returns-2
 unfolding unpacked
-returns-2 c = rw (eq-eqb _ _ (c .before .if1 .left)) (c .end-in .ensures)
+returns-2 c = simp (eq-eqb _ _ (c .before .before .before .if1 .left), sym (c .before .before .is-state .ensures) ∙ c .before .if2 .taken, c .end-of .ensures)
+
+returns-3 : tie.Need-returns-3
+unfolding unpacked
+returns-3 c = simp (eq-eqb _ _ (c .before .before .if1 .left), sym (c .before .is-state .ensures) ∙ c .if2 .left)
 
 pub unpack-spec : {M : Type 1} → statement M
-unpack-spec = tie.close (tie.spec returns end-in-requires returns-2)
+unpack-spec = tie.close (tie.spec returns (λ c κs. search needs) (λ c κs. search needs) returns-2 returns-3)

@@ -1,14 +1,12 @@
-//! The archive's writers and reader beside the hand-written ones of `paper`, on
-//! one frame of each kind.
+//! The archive's writers beside those of `paper`, and its reader beside the one
+//! that is written by hand, on one frame of each kind.
 
 use super::meter::Meter;
 use crate::commands::Outcome;
+use oam_tests::by_hand;
 use oam_tests::compare::grouped;
-use oam_tests::library::{answer_of, kind, length_of, Archive, ByPaper, Library, HEADER, PART};
-use oam_tests::paper::{
-    answer, check, code, list_start, walk, write, Content, Draft, DraftBody, LONGEST, NUMBERS,
-    WRITTEN,
-};
+use oam_tests::library::{length_of, Archive, ByPaper, Library, HEADER, ROW};
+use oam_tests::paper::{code, list_start, write, Draft, DraftBody, LONGEST, MOST_PARTS, WRITTEN};
 use std::hint::black_box;
 
 pub fn measure(meter: &mut impl Meter) -> Outcome {
@@ -19,8 +17,8 @@ pub fn measure(meter: &mut impl Meter) -> Outcome {
         measure_reader(meter, code, &frame(code)?)?;
     }
     for code in code::ALL {
-        if let Some(start) = list_start(code) {
-            measure_parts(meter, code, start, &frame(code)?)?;
+        if list_start(code).is_some() {
+            measure_reader_of_all(meter, code, &frame(code)?)?;
         }
     }
     Ok(())
@@ -111,102 +109,39 @@ fn measure_writer(meter: &mut impl Meter, draft: &Draft) -> Outcome {
 
 fn measure_reader(meter: &mut impl Meter, code: u8, frame: &[u8]) -> Outcome {
     let (mut header, mut own_header) = ([0; HEADER], [0; HEADER]);
-    let answers = (
+    let outcomes = (
         Archive.read(frame, &mut header),
-        own_read(frame, &mut own_header),
+        by_hand::read(frame, &mut own_header),
     );
-    if answers != (0, 0) || header != own_header {
-        return Err(format!("code {code:02X} is read otherwise; see the command reading").into());
+    if outcomes != (0, 0) || header != own_header {
+        return Err(read_otherwise(code).into());
     }
     let length = grouped(frame.len());
     meter.row(
         &format!("read {}, {length} octets", name(code)),
         || Archive.read(black_box(frame), &mut header),
-        || own_read(black_box(frame), &mut own_header),
+        || by_hand::read(black_box(frame), &mut own_header),
     );
     Ok(())
 }
 
-/// What `oam_read` does, by hand: the same tests, the same answer and the same
-/// four numbers.
-fn own_read(frame: &[u8], header: &mut [u64]) -> u64 {
-    let [source, flags, code, number, ..] = header else {
-        return answer::OUTPUT.into();
-    };
-    let heading = match check(frame) {
-        Ok(heading) => heading,
-        Err(answer) => return answer.into(),
-    };
-    let f: &[u8; 21] = frame
-        .first_chunk()
-        .expect("an accepted frame has 60 octets");
-    *source = u64::from_be_bytes([0, 0, f[6], f[7], f[8], f[9], f[10], f[11]]);
-    *flags = heading.flags.into();
-    *code = heading.code.into();
-    *number = match heading.code {
-        code::NOTIFICATION => u16::from_be_bytes([f[18], f[19]]).into(),
-        code::LOOPBACK => f[18].into(),
-        code::ORGANIZATION => u32::from_be_bytes([0, f[18], f[19], f[20]]).into(),
-        _ => 0,
-    };
-    0
-}
-
-fn measure_parts(meter: &mut impl Meter, code: u8, start: usize, frame: &[u8]) -> Outcome {
-    if archive_parts(start, frame) != own_parts(code, start, frame) {
-        return Err(format!("code {code:02X} is read otherwise; see the command reading").into());
+/// One call with room for the rows of any frame; all of them are stored.
+fn measure_reader_of_all(meter: &mut impl Meter, code: u8, frame: &[u8]) -> Outcome {
+    let (mut header, mut own_header) = ([0; HEADER], [0; HEADER]);
+    let (mut rows, mut own_rows) = ([0; ROW * MOST_PARTS], [0; ROW * MOST_PARTS]);
+    let outcome = Archive.read_all(frame, 0, &mut header, &mut rows);
+    let own_outcome = by_hand::read_all(frame, 0, &mut own_header, &mut own_rows);
+    if outcome != own_outcome || header != own_header || rows != own_rows {
+        return Err(read_otherwise(code).into());
     }
     meter.row(
         &format!("read all of {}", name(code)),
-        || archive_parts(start, black_box(frame)),
-        || own_parts(code, start, black_box(frame)),
+        || Archive.read_all(black_box(frame), 0, &mut header, &mut rows),
+        || by_hand::read_all(black_box(frame), 0, &mut own_header, &mut own_rows),
     );
     Ok(())
 }
 
-/// Reads a frame and all its parts by the archive, and adds up their numbers.
-fn archive_parts(start: usize, frame: &[u8]) -> u64 {
-    let (mut header, mut part) = ([0; HEADER], [0; PART]);
-    black_box(Archive.read(frame, &mut header));
-    let (mut at, mut sum) = (start, 0);
-    loop {
-        let kind = answer_of(Archive.part(frame, at, &mut part));
-        let [next, numbers @ ..] = &part;
-        sum += match kind {
-            kind::NONE | kind::END | kind::BROKEN => return sum,
-            kind::SKIPPED => 0,
-            kind::DESCRIPTOR => numbers[0],
-            kind::VALUE => numbers[0] + numbers[2],
-            kind::INDICATION => numbers[0] + numbers[1],
-            _ => numbers[..NUMBERS].iter().sum(),
-        };
-        at = *next as usize;
-    }
-}
-
-/// The same by the hand-written reader, which goes over a list in one pass.
-fn own_parts(code: u8, start: usize, frame: &[u8]) -> u64 {
-    black_box(check(frame)).ok();
-    let list = &frame[start..];
-    let mut sum: u64 = 0;
-    let walked = match code {
-        code::INFORMATION => walk::information(list, |part| {
-            sum += part.fields().numbers().iter().sum::<u64>();
-        }),
-        code::NOTIFICATION => walk::events(list, |event| {
-            sum += event.numbers().iter().sum::<u64>();
-        }),
-        code::REQUEST => walk::descriptors(list, |descriptor| {
-            sum += u64::from(descriptor.number());
-        }),
-        _ => walk::containers(list, |container| {
-            sum += u64::from(container.descriptor.number());
-            sum += match container.content {
-                Content::Value(value) => value.len() as u64,
-                Content::Indication(width) => width.into(),
-            };
-        }),
-    };
-    black_box(walked).ok();
-    sum
+fn read_otherwise(code: u8) -> String {
+    format!("code {code:02X} is read otherwise; see the command reading")
 }

@@ -28,9 +28,9 @@ pub fn run(arguments: &Arguments) -> Outcome {
     let runs = arguments.number("--runs").unwrap_or(RUNS).max(1) as usize;
     let runs = (!emulator::emulated()).then_some(runs);
     match (runs, arguments.program()) {
-        (Some(_), Ok(lister)) => {
+        (Some(_), Ok(program)) => {
             println!("## The lister\n");
-            speed::compare(&lister, &Extent::with_seed(SEED))?;
+            speed::show(&program, &Extent::with_seed(SEED))?;
             println!();
         }
         (Some(_), Err(_)) => {}

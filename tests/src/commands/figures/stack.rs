@@ -4,10 +4,10 @@ use super::machine::Stand;
 use oam_tests::generate::machine::{any_settings, directed_scripts, Script};
 use oam_tests::generate::{any_draft, any_frame, any_log_entry, any_log_line, every_frame};
 use oam_tests::library::machine::{Call, Machine, RECEIVED, STATE_OCTETS};
-use oam_tests::library::{writer_name, Archive, Library, HEADER, PART};
+use oam_tests::library::{writer_name, Archive, Library, HEADER, ROW};
 use oam_tests::measure::stack::PaintedStack;
 use oam_tests::paper::machine::{End, Settings, END_NUMBERS};
-use oam_tests::paper::{list_start, log, LONGEST, WRITTEN};
+use oam_tests::paper::{log, LONGEST, MOST_PARTS, WRITTEN};
 use oam_tests::random::Random;
 use std::collections::BTreeMap;
 use std::hint::black_box;
@@ -70,31 +70,20 @@ impl Depths {
         }
     }
 
-    /// Frames of every length and kind: read, taken apart, and received by an end
-    /// with this state.
+    /// Frames of every length and kind: read, read with their rows, and received by
+    /// an end with this state.
     fn frames(&mut self, state: [u8; STATE_OCTETS]) {
         let mut frames = every_frame(&mut self.random);
         frames.extend((0..INPUTS).map(|_| any_frame(&mut self.random)));
+        let (mut header, mut rows) = ([0; HEADER], [0; ROW * MOST_PARTS]);
         for made in frames {
-            let mut header = [0; HEADER];
-            self.note("oam_read", || Archive.read(&made.frame, &mut header));
-            if let Some(start) = list_start(header[2] as u8) {
-                self.parts(&made.frame, start);
-            }
+            let frame = &made.frame;
+            self.note("oam_read", || Archive.read(frame, &mut header));
+            let first = self.random.below(3);
+            self.note("oam_read_all", || {
+                Archive.read_all(frame, first, &mut header, &mut rows)
+            });
             self.call(&Call::Receive(made.frame), &mut state.clone());
-        }
-    }
-
-    /// The parts of a list, and what stands at any octet.
-    fn parts(&mut self, frame: &[u8], start: usize) {
-        let mut part = [0; PART];
-        let any = self.random.below(frame.len() + 1);
-        self.note("oam_part", || Archive.part(frame, any, &mut part));
-        let (mut at, mut next) = (0, start);
-        while at < next && next <= frame.len() {
-            at = next;
-            self.note("oam_part", || Archive.part(frame, at, &mut part));
-            next = part[0] as usize;
         }
     }
 
@@ -155,19 +144,4 @@ impl Depths {
 }
 
 #[cfg(test)]
-mod tests {
-    use super::*;
-
-    #[test]
-    fn every_entry_is_met_often_and_some_take_more_than_others() {
-        let deepest = measure(1)
-            .expect("the archive's machine is the paper's")
-            .deepest;
-        assert_eq!(deepest.len(), 19);
-        assert!(
-            deepest.values().all(|entry| entry.calls >= 300),
-            "{deepest:?}"
-        );
-        assert!(deepest["oam_receive"].octets > deepest["oam_write_loopback"].octets);
-    }
-}
+mod tests;

@@ -1,20 +1,21 @@
+use mathlib.Core.Path.{_∙_}
+use mathlib.Core.Bool.{true, false}
+use Rattle.end.proofs.Noting.{whole-by}
 use borrow.Author.Needs.{needs}
-use Rattle.end.specs.Taking.{takenWhole, takenDue}
 use Rattle.end.proofs.taking.take_due.Statement.{statement}
 use Rattle.end.proofs.taking.take_due.Tie as tie
 
--- src/taking.rt:184:9
-take-requires : tie.Need-take-requires
-take-requires c κs = search needs
+take-up-requires : tie.Need-take-up-requires
+take-up-requires c κs = search needs
 
--- src/taking.rt:187:14
+returns : tie.Need-returns
+returns c = let a = c .before .before .before .before .args in c .take-up .ensures ∙ whole-by (a .m) (a .e) true (c .before .if1 .taken)
+
 note-requires : tie.Need-note-requires
 note-requires c κs = search needs
 
--- src/taking.rt:181:1
-returns : tie.Need-returns
-unfolding takenWhole takenDue
-returns c = simp (c .note .ensures, c .before .before .take .ensures)
+returns-2 : tie.Need-returns-2
+returns-2 c = let a = c .before .before .before .before .args in rw (c .note .ensures) (whole-by (a .m) (a .e) false (c .before .if1 .left))
 
 pub take-due-spec : {M : Type 1} → statement M
-take-due-spec = tie.close (tie.spec take-requires note-requires returns)
+take-due-spec = tie.close (tie.spec take-up-requires returns note-requires returns-2)

@@ -1,16 +1,24 @@
 use mathlib.Core.Path.{_≡_, sym, ap, _∙_}
 use mathlib.Core.Bool.{true, false}
-use Rattle.end.specs.State.{inAny}
-use Rattle.end.specs.Taking.{learned, takenUp}
+use Rattle.discovery.specs.Standing.{isAny}
+use Rattle.end.specs.State.{discoveryOf}
+use Rattle.end.specs.Taking.{known}
+use Rattle.end.proofs.Noting.{taken-any, taken-else}
 use borrow.Author.Needs.{needs}
 use Rattle.end.proofs.taking.take_up.Statement.{statement}
 use Rattle.end.proofs.taking.take_up.Tie as tie
 
-learn-requires : tie.Need-learn-requires
-learn-requires c κs = search needs
+know-requires : tie.Need-know-requires
+know-requires c κs = search needs
 
-in-any-requires : tie.Need-in-any-requires
-in-any-requires c κs = search needs
+discovery-requires : tie.Need-discovery-requires
+discovery-requires c κs = search needs
+
+settle-in-requires : tie.Need-settle-in-requires
+settle-in-requires c κs = search needs
+
+is-any-requires : tie.Need-is-any-requires
+is-any-requires c κs = search needs
 
 is-obeyed-requires : tie.Need-is-obeyed-requires
 is-obeyed-requires c κs = search needs
@@ -18,31 +26,45 @@ is-obeyed-requires c κs = search needs
 act-requires : tie.Need-act-requires
 act-requires c κs = search needs
 
+own-after-requires : tie.Need-own-after-requires
+own-after-requires c κs = search needs
+
 show-requires : tie.Need-show-requires
 show-requires c κs = search needs
 
 returns : tie.Need-returns
-unfolding takenUp
-returns c = let a = c .before .before .before .before .before .before .before .before .args in
-    let l = c .before .before .before .before .before .learn .ensures in
-    let any : inAny (learned (a .m) (a .e)) ≡ true = sym (ap inAny l) ∙ sym (c .before .before .before .before .in-any .ensures) ∙ c .before .before .before .if1 .taken in
-    rw any (simp (c .show .ensures, c .before .act .ensures, c .before .before .is-obeyed .ensures, l))
+returns c =
+    let a = c .before .before .before .before .before .before .before .before .before .before .before .before .before .before .before .args in
+    let k = c .before .before .before .before .before .before .before .before .before .before .before .before .know .ensures in
+    let d = c .before .before .before .before .before .before .before .before .before .before .before .discovery .ensures in
+    let any : isAny (discoveryOf (known (a .m) (a .e))) ≡ true =
+    sym (ap isAny (d ∙ ap discoveryOf k)) ∙ sym (c .before .before .before .before .before .before .before .before .before .is-any .ensures) ∙ c .before .before .before .before .before .before .before .before .if1 .taken in
+    rw (c .show .ensures, c .before .before .before .before .before .own-after .ensures, c .before .before .before .before .before .before .act .ensures, c .before .before .before .before .before .before .before .is-obeyed .ensures, c .before .before .before .before .before .before .before .before .before .before .settle-in .ensures, d, k) (taken-any (a .m) (a .e) any)
+
+own-after-requires-2 : tie.Need-own-after-requires-2
+own-after-requires-2 c κs = search needs
 
 returns-2 : tie.Need-returns-2
-unfolding takenUp
-returns-2 c = let a = c .before .before .before .before .before .args in
-    let l = c .before .before .learn .ensures in
-    let any : inAny (learned (a .m) (a .e)) ≡ false = sym (ap inAny l) ∙ sym (c .before .in-any .ensures) ∙ c .if1 .left in
-    rw any (simp l)
+returns-2 c =
+    let a = c .before .before .before .before .before .before .before .before .before .before .before .before .args in
+    let k = c .before .before .before .before .before .before .before .before .before .know .ensures in
+    let d = c .before .before .before .before .before .before .before .before .discovery .ensures in
+    let any : isAny (discoveryOf (known (a .m) (a .e))) ≡ false =
+    sym (ap isAny (d ∙ ap discoveryOf k)) ∙ sym (c .before .before .before .before .before .before .is-any .ensures) ∙ c .before .before .before .before .before .if1 .left in
+    rw (c .before .before .before .before .own-after2 .ensures, c .before .before .before .before .before .before .before .settle-in .ensures, d, k) (taken-else (a .m) (a .e) any)
 
 pub take-up-spec : {M : Type 1} → statement M
 take-up-spec =
     tie.close
     (tie.spec
-    learn-requires
-    in-any-requires
+    know-requires
+    discovery-requires
+    settle-in-requires
+    is-any-requires
     is-obeyed-requires
     act-requires
+    own-after-requires
     show-requires
     returns
+    own-after-requires-2
     returns-2)

@@ -1,20 +1,24 @@
+use Rattle.end.proofs.Noting.{turned-due}
 use borrow.Author.Needs.{needs}
-use Rattle.end.specs.Ticking.{tickedDue}
 use Rattle.end.proofs.ticking.turn_due.Statement.{statement}
 use Rattle.end.proofs.ticking.turn_due.Tie as tie
 
-closes-requires : tie.Need-closes-requires
-closes-requires c κs = search needs
+miss-requires : tie.Need-miss-requires
+miss-requires c κs = search needs
+
+discovery-requires : tie.Need-discovery-requires
+discovery-requires c κs = search needs
 
 turn-requires : tie.Need-turn-requires
 turn-requires c κs = search needs
 
-note-requires : tie.Need-note-requires
-note-requires c κs = search needs
+own-turned-requires : tie.Need-own-turned-requires
+own-turned-requires c κs = search needs
 
 returns : tie.Need-returns
-unfolding tickedDue
-returns c = simp (c .note .ensures, c .before .turn .ensures, c .before .before .closes .ensures)
+returns c =
+    rw (c .before .before .before .before .own-turned .ensures, c .before .before .before .before .before .turn .ensures, c .before .before .before .before .before .before .discovery .ensures, c .before .before .before .before .before .before .before .miss .ensures) (turned-due (c .before .before .before .before .before .before .before .before .args .e))
 
 pub turn-due-spec : {M : Type 1} → statement M
-turn-due-spec = tie.close (tie.spec closes-requires turn-requires note-requires returns)
+turn-due-spec =
+    tie.close (tie.spec miss-requires discovery-requires turn-requires own-turned-requires returns)

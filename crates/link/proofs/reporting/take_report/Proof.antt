@@ -1,5 +1,10 @@
 use mathlib.Core.Path.{sym, _∙_}
+use lib.ListN.{length}
+use denote.Ref.{now}
+use Rattle.end.specs.Reporting.{reportedDue}
+use Rattle.end.specs.declared.Shown.the-variants.{Nothing}
 use Rattle.link.specs.Reports.{reportOf, reportOutput}
+use Rattle.link.proofs.Ending.{concludes}
 use borrow.Author.Needs.{needs}
 use Rattle.link.proofs.reporting.take_report.Statement.{statement}
 use Rattle.link.proofs.reporting.take_report.Tie as tie
@@ -18,17 +23,26 @@ returns c = let short = sym (c .before .before .is-short .ensures) ∙ c .before
 report-due-requires : tie.Need-report-due-requires
 report-due-requires c κs = search needs
 
-conclude-requires : tie.Need-conclude-requires
-conclude-requires c κs = search needs
+write-owed-requires : tie.Need-write-owed-requires
+write-owed-requires c κs = search needs
+
+after-sending-requires : tie.Need-after-sending-requires
+after-sending-requires c κs = search needs
+
+outcome-requires-2 : tie.Need-outcome-requires-2
+outcome-requires-2 c κs = search needs
 
 same-length : tie.Need-same-length
 same-length c = search needs
 
 returns-2 : tie.Need-returns-2
 unfolding reportOf reportOutput
-returns-2 c = let long = sym (c .before .before .before .before .before .before .is-short .ensures) ∙ c .before .before .before .before .before .if1 .left in
-    let due = c .before .before .before .before .report-due .ensures in
-    (rw long (simp (c .before .before .conclude .ensures .0, due)), rw long (simp (c .before .before .conclude .ensures .1, due)))
+returns-2 c =
+    let a = c .before .before .before .before .before .before .before .before .before .before .args in
+    let long = sym (c .before .before .before .before .before .before .before .before .is-short .ensures) ∙ c .before .before .before .before .before .before .before .if1 .left in
+    let d = c .before .before .before .before .before .before .report-due .ensures in
+    let w = c .before .before .before .before .write-owed .ensures in
+    (rw long (rw (c .outcome2 .ensures, c .before .after-sending .ensures, w .0, d) (concludes (length (now (a .out))) Nothing (reportedDue (a .report) (a .e)))), rw long (rw (w .1, d)))
 
 pub take-report-spec : {M : Type 1} → statement M
 take-report-spec =
@@ -38,6 +52,8 @@ take-report-spec =
     outcome-requires
     returns
     report-due-requires
-    conclude-requires
+    write-owed-requires
+    after-sending-requires
+    outcome-requires-2
     same-length
     returns-2)

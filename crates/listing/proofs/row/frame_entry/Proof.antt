@@ -1,24 +1,32 @@
 -- `listing::row::frame_entry` meets its contract.
 -- Assumes nothing.
-use mathlib.Core.Path.{ap, _∙_}
+use mathlib.Core.Path.{sym, _∙_}
 use denote.Ref.{now}
-use Rattle.frame.specs.Frame.{decode}
-use Rattle.listing.specs.Rows.{entryShown}
-use Rattle.listing.proofs.Entries.{entry-shown}
+use Rattle.listing.proofs.Entries.{entry-refused, entry-accepted}
 use borrow.Author.Needs.{needs}
 use Rattle.listing.proofs.row.frame_entry.Statement.{statement}
 use Rattle.listing.proofs.row.frame_entry.Tie as tie
 
-read-requires : tie.Need-read-requires
-read-requires c κs = search needs
+judge-requires : tie.Need-judge-requires
+judge-requires c κs = search needs
 
-entry-of-requires : tie.Need-entry-of-requires
-entry-of-requires c κs = search needs
+enum-known-answer : tie.Need-enum-known-answer
+enum-known-answer c = search needs
+
+enum-told : tie.Need-enum-told
+enum-told c = search needs
+
+header-of-requires : tie.Need-header-of-requires
+header-of-requires c κs = search needs
 
 returns : tie.Need-returns
-returns c =
-    let f = now (c .before .before .before .args .frame) in
-    c .entry-of .ensures ∙ ap entryShown (c .before .read .ensures) ∙ entry-shown (decode f)
+returns c = entry-refused (now (c .before .before .before .before .before .args .frame)) _ (sym (c .before .before .before .judge .ensures) ∙ c .before .answer .given .1)
+
+returns-2 : tie.Need-returns-2
+returns-2 c =
+    rw (c .header-of .ensures) (entry-accepted (now (c .before .before .before .before .before .args .frame)) _ (sym (c .before .before .before .judge .ensures) ∙ c .before .enum-told .given .1))
 
 pub frame-entry-spec : {M : Type 1} → statement M
-frame-entry-spec = tie.close (tie.spec read-requires entry-of-requires returns)
+frame-entry-spec =
+    tie.close
+    (tie.spec judge-requires enum-known-answer enum-told header-of-requires returns returns-2)

@@ -1,6 +1,5 @@
 use borrow.Author.Tests.{eq-eqb, ne-eqb}
 use borrow.Author.Needs.{needs}
-use Rattle.loopback.specs.Loopback.{commanded}
 use Rattle.loopback.proofs.loopback.role_after_command.Statement.{statement}
 use Rattle.loopback.proofs.loopback.role_after_command.Tie as tie
 

@@ -3,6 +3,7 @@ use mathlib.Core.Path.{sym, _∙_}
 use borrow.Author.Tests.{eq-eqb, ne-eqb}
 use denote.Ref.{now}
 use lib.ListN.{length}
+use Rattle.packing.specs.Octets.{stateLength}
 use Rattle.oam.specs.Machine.{freshFor}
 use Rattle.oam.proofs.Stepped.{unmade, fresh-made}
 use borrow.Author.Needs.{needs}
@@ -13,7 +14,7 @@ returns : tie.Need-returns
 unfolding freshFor
 returns c =
     let s = now (c .before .before .args .state) in
-    unmade _ s (rw (ne-eqb (length s) 48 (c .if1 .taken)))
+    unmade _ s (rw (ne-eqb (length s) stateLength (c .if1 .taken)))
 
 fresh-requires : tie.Need-fresh-requires
 fresh-requires c κs = search needs
@@ -34,7 +35,7 @@ returns-2 : tie.Need-returns-2
 unfolding freshFor
 returns-2 c =
     let s = now (c .before .before .before .before .before .before .args .state) in
-    unmade _ s (rw (eq-eqb (length s) 48 (c .before .before .before .before .if1 .left)) (sym (c .before .before .before .fresh .ensures) ∙ c .before .answer .given .1))
+    unmade _ s (rw (eq-eqb (length s) stateLength (c .before .before .before .before .if1 .left)) (sym (c .before .before .before .fresh .ensures) ∙ c .before .answer .given .1))
 
 same-length : tie.Need-same-length
 same-length c = search needs
@@ -43,7 +44,7 @@ returns-3 : tie.Need-returns-3
 unfolding freshFor
 returns-3 c =
     let s = now (c .before .before .before .before .before .before .before .before .before .before .args .state) in
-    fresh-made _ s (rw (eq-eqb (length s) 48 (c .before .before .before .before .before .before .before .before .if1 .left)) (sym (c .before .before .before .before .before .before .before .fresh .ensures) ∙ c .before .before .before .before .before .e .given .1)) (c .before .before .pack .ensures)
+    fresh-made _ s (rw (eq-eqb (length s) stateLength (c .before .before .before .before .before .before .before .before .if1 .left)) (sym (c .before .before .before .before .before .before .before .fresh .ensures) ∙ c .before .before .before .before .before .e .given .1)) (c .before .before .pack .ensures)
 
 pub oam-fresh-spec : {M : Type 1} → statement M
 oam-fresh-spec =

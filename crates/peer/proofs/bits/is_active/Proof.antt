@@ -1,5 +1,5 @@
-use Prim.Native.Nat.{ℕ, _/_, _^_}
-use mathlib.Core.Path.{ap, _∙_}
+use Prim.Native.Nat.{ℕ}
+use mathlib.Core.Path.{ap}
 use native.Mathlib.Nat.{div-one}
 use lib.Bits.{and-mask}
 use lib.Dec.{eqb}

@@ -1,46 +1,50 @@
+use Prim.Native.Nat.{ℕ}
+use mathlib.Core.Path.{_≡_, sym, ap, _∙_}
+use native.Mathlib.Omega.{arith}
+use denote.Ref.{now}
+use Rattle.tlvs.specs.Octets.{total}
+use Rattle.tlvs.specs.Tlvs.{row}
 use Rattle.tlvs.specs.Events.{eventAt}
-use borrow.Author.Needs.{needs}
 use Rattle.tlvs.proofs.notifications.event_at.Statement.{statement}
 use Rattle.tlvs.proofs.notifications.event_at.Tie as tie
 
-add-fields : tie.Need-add-fields
-add-fields c = search needs
+-- in the last arm the type is 4
+last : (c : tie.At-match-rest) → c .before .before .args .t ≡ 4
+last c = omega arith
 
-fields-requires : tie.Need-fields-requires
-fields-requires c κs = search needs
+symbol-period-at-requires : tie.Need-symbol-period-at-requires
+symbol-period-at-requires c κs = omega (arith, ap (λ (t : ℕ). total (row t)) (c .match .keys1))
 
-array-read-t9 : tie.Need-array-read-t9
-array-read-t9 c = search needs
+frame-event-at-requires : tie.Need-frame-event-at-requires
+frame-event-at-requires c κs = omega (arith, ap (λ (t : ℕ). total (row t)) (c .match .keys2))
 
-array-read-t12 : tie.Need-array-read-t12
-array-read-t12 c = search needs
+frame-period-at-requires : tie.Need-frame-period-at-requires
+frame-period-at-requires c κs = omega (arith, ap (λ (t : ℕ). total (row t)) (c .match .keys3))
 
-array-read-t15 : tie.Need-array-read-t15
-array-read-t15 c = search needs
-
-array-read-t18 : tie.Need-array-read-t18
-array-read-t18 c = search needs
-
-array-read-t21 : tie.Need-array-read-t21
-array-read-t21 c = search needs
-
-array-read-t24 : tie.Need-array-read-t24
-array-read-t24 c = search needs
+frame-seconds-at-requires : tie.Need-frame-seconds-at-requires
+frame-seconds-at-requires c κs = omega (arith, ap (λ (t : ℕ). total (row t)) (last c))
 
 returns : tie.Need-returns
-unfolding eventAt
-returns c = simp (c .fields .ensures)
+returns c = let a = c .before .before .before .args in c .symbol-period-at .ensures ∙ ap (eventAt (now (a .body)) (a .at)) (sym (c .before .match .keys1))
+
+returns-2 : tie.Need-returns-2
+returns-2 c = let a = c .before .before .before .args in c .frame-event-at .ensures ∙ ap (eventAt (now (a .body)) (a .at)) (sym (c .before .match .keys2))
+
+returns-3 : tie.Need-returns-3
+returns-3 c = let a = c .before .before .before .args in c .frame-period-at .ensures ∙ ap (eventAt (now (a .body)) (a .at)) (sym (c .before .match .keys3))
+
+returns-4 : tie.Need-returns-4
+returns-4 c = let a = c .before .before .before .args in c .frame-seconds-at .ensures ∙ ap (eventAt (now (a .body)) (a .at)) (sym (last (c .before)))
 
 pub event-at-spec : {M : Type 1} → statement M
 event-at-spec =
     tie.close
     (tie.spec
-    add-fields
-    fields-requires
-    array-read-t9
-    array-read-t12
-    array-read-t15
-    array-read-t18
-    array-read-t21
-    array-read-t24
-    returns)
+    symbol-period-at-requires
+    frame-event-at-requires
+    frame-period-at-requires
+    frame-seconds-at-requires
+    returns
+    returns-2
+    returns-3
+    returns-4)

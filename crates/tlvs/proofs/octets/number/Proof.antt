@@ -1,76 +1,49 @@
+use native.Mathlib.Omega.{arith}
+use Prim.Native.Nat.{ℕ}
+use mathlib.Core.Path.{sym, ap, _∙_}
+use denote.Ref.{now}
+use Rattle.tlvs.specs.Octets.{num}
+use Rattle.tlvs.proofs.Numbers.{word-eight}
+use borrow.Author.Needs.{needs}
 use Rattle.tlvs.proofs.octets.number.Statement.{statement}
 use Rattle.tlvs.proofs.octets.number.Tie as tie
-use native.Mathlib.Omega.{arith}
-use native.Mathlib.Numerals.{add-one}
-use mathlib.Core.Path.{_≡_, refl}
-use Prim.Native.Nat.{ℕ, suc, _+_, _*_, _-_, _^_, _≤_, _<_}
-use lib.ListN.{length, getD}
-use Rattle.tlvs.specs.Octets.{num}
-use Rattle.tlvs.proofs.Numbers.{pow-upto}
-use native.Mathlib.Nat.{pow-suc}
 
-abbrev Inv-loop : tie.InvT-loop
-Inv-loop s at width value₀ i₀ value i = (i ≤ width) × (value ≡ num i s at) × (value < 256 ^ i)
+two-at-requires : tie.Need-two-at-requires
+two-at-requires c κs = search needs
 
-abbrev μ-loop : tie.MeasureT-loop
-μ-loop s at width value₀ i₀ value i = width - i
+cast-result : tie.Need-cast-result
+cast-result c = search needs
 
-loop-holds : tie.Need-loop-holds Inv-loop μ-loop
-loop-holds c = (omega arith, refl, omega arith)
+four-at-requires : tie.Need-four-at-requires
+four-at-requires c κs = search needs
 
-mul-value : tie.Need-mul-value Inv-loop μ-loop
-mul-value c = omega (arith, pow-upto (c .before .loop .i) 7 (omega arith))
+cast-result-2 : tie.Need-cast-result-2
+cast-result-2 c = search needs
 
-add-value : tie.Need-add-value Inv-loop μ-loop
-add-value c = omega arith
+eight-at-requires : tie.Need-eight-at-requires
+eight-at-requires c κs = let r = c .match .rest in omega (arith, word-eight (c .before .before .args .width) (c .before .before .pre .0) (r .0 .1) (r .1))
 
-shared-slice-read-value : tie.Need-shared-slice-read-value Inv-loop μ-loop
-shared-slice-read-value c = omega arith
+returns : tie.Need-returns
+returns c = let a = c .before .before .before .args in c .two-at .ensures ∙ ap (λ (w : ℕ). num w (now (a .s)) (a .at)) (sym (c .before .match .keys1))
 
-cast-value : tie.Need-cast-value Inv-loop μ-loop
-cast-value c = omega (arith, c .shared-slice-known .given (c .before .before .before .args .at + c .before .before .loop .i))
+returns-2 : tie.Need-returns-2
+returns-2 c = let a = c .before .before .before .args in c .four-at .ensures ∙ ap (λ (w : ℕ). num w (now (a .s)) (a .at)) (sym (c .before .match .keys2))
 
-add-value-2 : tie.Need-add-value-2 Inv-loop μ-loop
-add-value-2 c =
-    omega (
-      arith,
-      pow-upto (c .before .before .loop .i) 7 (omega arith),
-      c .shared-slice-known .given (c .before .before .before .args .at + c .before .before .loop .i),
-    )
-
-add-i : tie.Need-add-i Inv-loop μ-loop
-add-i c = omega arith
-
-loop-less : tie.Need-loop-less Inv-loop μ-loop
-loop-less c = omega arith
-
-loop-again : tie.Need-loop-again Inv-loop μ-loop
-loop-again c =
-    let i = c .before .before .loop .i in
-    let b = c .shared-slice-known .given (c .before .before .before .args .at + i) in (
-      omega arith,
-      rw (add-one, c .before .before .loop .inv .1),
-      rw (add-one, pow-suc) (omega (arith, b)),
-    )
-
-returns : tie.Need-returns Inv-loop μ-loop
-returns c =
-    let e : c .before .loop .i ≡ c .before .before .args .width = omega arith in
-    rw (← e) (c .before .loop .inv .1, c .before .loop .inv .2)
+returns-3 : tie.Need-returns-3
+returns-3 c =
+    let a = c .before .before .before .args in
+    let r = c .before .match .rest in
+    c .eight-at .ensures ∙ ap (λ (w : ℕ). num w (now (a .s)) (a .at)) (sym (word-eight (a .width) (c .before .before .before .pre .0) (r .0 .1) (r .1)))
 
 pub number-spec : {M : Type 1} → statement M
 number-spec =
     tie.close
     (tie.spec
-    Inv-loop
-    μ-loop
-    loop-holds
-    mul-value
-    add-value
-    shared-slice-read-value
-    cast-value
-    add-value-2
-    add-i
-    loop-less
-    loop-again
-    returns)
+    two-at-requires
+    cast-result
+    four-at-requires
+    cast-result-2
+    eight-at-requires
+    returns
+    returns-2
+    returns-3)

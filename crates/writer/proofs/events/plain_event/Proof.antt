@@ -1,17 +1,16 @@
 use lib.ListN.{length, getD, take, drop, length-drop}
 use Prim.Native.Nat.{ℕ, _-_}
-use mathlib.Core.Path.{_≡_, sym, ap, _∙_}
+use mathlib.Core.Path.{ap, _∙_}
 use mathlib.Core.List.{List}
 use native.Mathlib.Omega.{arith}
 use borrow.Author.Tests.{ne-eqb, eq-eqb, lt-leb, le-leb}
 use denote.Ref.{now}
 use lib.Seq.{take-all}
 use Rattle.tlvs.specs.Tlvs.{widthsOf}
-use Rattle.tlvs.proofs.Rows.{row-of}
 use Rattle.writer.specs.Octets.{fit}
 use Rattle.writer.specs.Plain.{plainEvent}
 use Rattle.writer.specs.Writing.{plainSeven}
-use Rattle.writer.proofs.Sevens.{fits-plain, widths-row}
+use Rattle.writer.proofs.Sevens.{fits-plain}
 use borrow.Author.Needs.{needs}
 use Rattle.writer.proofs.events.plain_event.Statement.{statement}
 use Rattle.writer.proofs.events.plain_event.Tie as tie

@@ -1,14 +1,12 @@
-use Prim.Native.Nat.{ℕ, _+_, _-_}
-use mathlib.Core.Path.{_≡_, sym, ap, _∙_}
-use mathlib.Core.List.{List}
+use Prim.Native.Nat.{_+_, _-_}
+use mathlib.Core.Path.{_≡_, _∙_}
 use native.Mathlib.Omega.{arith}
 use denote.Ref.{now}
-use lib.ListN.{length, getD, take, drop, length-drop}
-use lib.Seq.{sets, take-all}
+use lib.ListN.{length, getD, drop, length-drop}
+use lib.Seq.{take-all}
 use Rattle.tlvs.specs.Octets.{total}
 use Rattle.tlvs.specs.Tlvs.{row, eventLength}
 use Rattle.tlvs.proofs.Rows.{row-of}
-use Rattle.writer.specs.Octets.{oct, octs}
 use Rattle.writer.proofs.Lengths.{length-row}
 use Rattle.writer.proofs.Sevens.{Seven, seven-is, widths-row, event-stored}
 use borrow.Author.Needs.{needs}

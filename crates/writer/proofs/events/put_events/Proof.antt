@@ -1,18 +1,18 @@
 use Prim.Native.Nat.{ℕ, _+_, _-_, _*_, _/_, _<_, _≤_}
 use mathlib.Core.Path.{_≡_, refl, sym, ap, _∙_}
-use mathlib.Core.List.{List, [], _∷_}
+use mathlib.Core.List.{List, _∷_}
 use mathlib.Core.Bool.{true, and-eq-true-iff}
 use native.Mathlib.Nat.{sub-zero}
 use native.Mathlib.Omega.{arith}
 use borrow.Author.Needs.{needs}
 use denote.Ref.{now}
-use lib.ListN.{length, take, drop, length-drop}
+use lib.ListN.{length, drop, length-drop}
 use lib.Seq.{sets}
 use Rattle.tlvs.specs.Tlvs.{eventLength}
 use Rattle.tlvs.specs.declared.Event.{Event}
 use Rattle.writer.specs.Encode.{eventOctets, joined}
 use Rattle.writer.specs.Plain.{every, plainEvent, eventsLength}
-use Rattle.writer.specs.Writing.{eventFrom, plainSeven, eventsFrom}
+use Rattle.writer.specs.Writing.{eventFrom, eventsFrom}
 use Rattle.writer.proofs.Sevens.{next-event, plain-take, kind-take, event-take, eventful, put-event}
 use Rattle.writer.proofs.events.put_events.Statement.{statement}
 use Rattle.writer.proofs.events.put_events.Tie as tie

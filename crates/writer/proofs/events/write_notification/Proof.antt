@@ -1,5 +1,5 @@
 use Prim.Native.Nat.{ℕ, _+_}
-use mathlib.Core.Path.{_≡_, sym, ap, _∙_}
+use mathlib.Core.Path.{sym, ap, _∙_}
 use mathlib.Core.List.{List}
 use native.Mathlib.Omega.{arith}
 use borrow.Author.Tests.{not-true, not-false}
@@ -10,7 +10,7 @@ use Rattle.writer.specs.Octets.{oct}
 use Rattle.writer.specs.Encode.{eventOctets, joined}
 use Rattle.writer.specs.Writing.{messageOf, eventsOf}
 use Rattle.writer.proofs.Stores.{sets-append}
-use Rattle.writer.proofs.Sevens.{Measured, measured-is, measured-none, notification-plain, notification-end}
+use Rattle.writer.proofs.Sevens.{measured-is, measured-none, notification-plain, notification-end}
 use Rattle.writer.proofs.Writers.{no-header, no-body, refused-9, put-all}
 use borrow.Author.Needs.{needs}
 use Rattle.writer.proofs.events.write_notification.Statement.{statement}

@@ -1,5 +1,5 @@
 use Prim.Native.Nat.{ℕ, _-_, max}
-use mathlib.Core.Path.{_≡_, sym, ap}
+use mathlib.Core.Path.{_≡_, ap}
 use native.Mathlib.Omega.{arith}
 use denote.Ref.{now}
 use lib.ListN.{replicate}

@@ -1,4 +1,3 @@
-use mathlib.Core.Path.{_≡_, refl}
 use native.Mathlib.Omega.{arith}
 use Rattle.writer.proofs.Lengths.{length-information}
 use borrow.Author.Needs.{needs}

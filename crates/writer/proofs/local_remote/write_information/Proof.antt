@@ -6,7 +6,7 @@ use borrow.Author.Tests.{not-true, not-false}
 use denote.Ref.{now}
 use lib.ListN.{length}
 use lib.Seq.{sets}
-use Rattle.frame.specs.Frame.{information, Message}
+use Rattle.frame.specs.Frame.{information}
 use Rattle.writer.specs.Encode.{heldOctets}
 use Rattle.writer.specs.Writing.{messageOf, partsOf}
 use Rattle.writer.proofs.Writers.{no-header, no-body, refused-9, put-all, held-end, held-stored}

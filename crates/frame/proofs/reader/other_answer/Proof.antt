@@ -1,0 +1,91 @@
+use borrow.Author.Tests.{ne-eqb}
+use Rattle.frame.specs.Reader.{otherAnswer}
+use Rattle.frame.proofs.Decoding.{coded}
+use borrow.Author.Needs.{needs}
+use Rattle.frame.proofs.reader.other_answer.Statement.{statement}
+use Rattle.frame.proofs.reader.other_answer.Tie as tie
+
+events-body-requires : tie.Need-events-body-requires
+events-body-requires c κs = search needs
+
+is-whole-requires : tie.Need-is-whole-requires
+is-whole-requires c κs = search needs
+
+list-answer-requires : tie.Need-list-answer-requires
+list-answer-requires c κs = search needs
+
+body-requires : tie.Need-body-requires
+body-requires c κs = search needs
+
+is-whole-requires-2 : tie.Need-is-whole-requires-2
+is-whole-requires-2 c κs = search needs
+
+list-answer-requires-2 : tie.Need-list-answer-requires-2
+list-answer-requires-2 c κs = search needs
+
+body-requires-2 : tie.Need-body-requires-2
+body-requires-2 c κs = search needs
+
+is-whole-requires-3 : tie.Need-is-whole-requires-3
+is-whole-requires-3 c κs = search needs
+
+list-answer-requires-3 : tie.Need-list-answer-requires-3
+list-answer-requires-3 c κs = search needs
+
+shared-slice-read-command-answer : tie.Need-shared-slice-read-command-answer
+shared-slice-read-command-answer c = search needs
+
+command-answer-requires : tie.Need-command-answer-requires
+command-answer-requires c κs = search needs
+
+returns : tie.Need-returns
+unfolding otherAnswer
+returns c = let e = c .before .before .before .match .keys1 in simp (coded e 1, c .list-answer .ensures, c .before .is-whole .ensures, c .before .before .events-body .ensures)
+
+returns-2 : tie.Need-returns-2
+unfolding otherAnswer
+returns-2 c = let e = c .before .before .before .match .keys2 in simp (coded e 1, coded e 2, c .list-answer2 .ensures, c .before .is-whole2 .ensures, c .before .before .body .ensures)
+
+returns-3 : tie.Need-returns-3
+unfolding otherAnswer
+returns-3 c = let e = c .before .before .before .match .keys3 in simp (coded e 1, coded e 2, coded e 3, c .list-answer3 .ensures, c .before .is-whole3 .ensures, c .before .before .body2 .ensures)
+
+returns-4 : tie.Need-returns-4
+unfolding otherAnswer
+returns-4 c = let e = c .before .before .match .keys4 in simp (coded e 1, coded e 2, coded e 3, coded e 4) (c .command-answer .ensures)
+
+returns-5 : tie.Need-returns-5
+unfolding otherAnswer
+returns-5 c = let e = c .match .keys5 in simp (coded e 1, coded e 2, coded e 3, coded e 4, coded e 0xfe)
+
+returns-6 : tie.Need-returns-6
+unfolding otherAnswer
+returns-6 c = simp (
+  ne-eqb _ _ (c .match .rest .0 .0 .0 .0 .1),
+  ne-eqb _ _ (c .match .rest .0 .0 .0 .1),
+  ne-eqb _ _ (c .match .rest .0 .0 .1),
+  ne-eqb _ _ (c .match .rest .0 .1),
+  ne-eqb _ _ (c .match .rest .1),
+)
+
+pub other-answer-spec : {M : Type 1} → statement M
+other-answer-spec =
+    tie.close
+    (tie.spec
+    events-body-requires
+    is-whole-requires
+    list-answer-requires
+    body-requires
+    is-whole-requires-2
+    list-answer-requires-2
+    body-requires-2
+    is-whole-requires-3
+    list-answer-requires-3
+    shared-slice-read-command-answer
+    command-answer-requires
+    returns
+    returns-2
+    returns-3
+    returns-4
+    returns-5
+    returns-6)

@@ -1,0 +1,10 @@
+use borrow.Author.Needs.{needs}
+use native.Mathlib.Nat.{add-zero}
+use Rattle.packing.proofs.octets.two_at.Statement.{statement}
+use Rattle.packing.proofs.octets.two_at.Tie as tie
+
+returns : tie.Need-returns
+returns c = simp (add-zero, c .join-two .ensures)
+
+pub two-at-spec : {M : Type 1} → statement M
+two-at-spec = tie.close (tie.spec (λ c. search needs) (λ c. search needs) (λ c. search needs) (λ c κs. search needs) returns)
