@@ -2,7 +2,7 @@
 //
 // An entry takes numbers and lent slices and trusts none of them. A slice is two arguments to its caller, where it begins and
 // how many elements it has. An entry that writes answers an outcome: one number, the paper's answer in its low 8 bits, 0
-// where it is accepted, and the length that was written above them, of which nothing is cut off (`proofs/Lengths.antt`). A
+// where it is accepted, and the length that was written above them, of which nothing is cut off (proofs/Lengths.antt of `archive`). A
 // refusal leaves every lent slice as it was. What an entry reads is shown as numbers in lent slices (the crate `showing`).
 //
 // An end of the link is kept in octets that the caller lends to each call (the crate `packing`). The outcome of a call has
