@@ -16,6 +16,12 @@
 #ifndef OAM_H
 #define OAM_H
 
+/*
+ * The version of what stands here and of a state's octets: it grows with every change of either. A state is
+ * good for the build that made it. After an update make a fresh end (oam_fresh) and report the link.
+ */
+#define OAM_VERSION 1
+
 #include <stddef.h>
 #include <stdint.h>
 #ifndef __cplusplus

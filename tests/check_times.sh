@@ -18,7 +18,7 @@ while read -r crate; do
   rm -f "$log"
   echo "| \`$crate\` | $processor |"
   total=$((total + processor))
-done < <(sed -n 's/^\([a-z]*\):.*/\1/p' crates.txt)
+done < <(sed -n 's/^\([a-z_]*\):.*/\1/p' crates.txt)
 echo "| all | $total |"
 
 if [ "${1:-}" = gate ]; then

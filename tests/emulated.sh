@@ -1,8 +1,9 @@
-# For .ci/run, on a processor that is not x86-64. The kit compiles programs and the archive for x86-64 Linux wherever it runs, so what
-# is linked with the archive is compiled for x86-64 too, and all of it runs under an emulator. A time measured so says nothing.
+# For .ci/run, on a processor that is not x86-64. The kit compiles programs and the archive for x86-64 Linux wherever
+# it runs, so what is linked with the archive is compiled for x86-64 too, and all of it runs under an emulator. A time
+# measured so says nothing.
 #
-# The compilers, the C library, Rust's library and the emulator come from Debian's packages and are installed where one is missing.
-# Debian's `rustc-web` is a rustc of which Debian also has the library for x86-64.
+# The compilers, the C library, Rust's library and the emulator come from Debian's packages and are installed where one is
+# missing. Debian's `rustc-web` is a rustc of which Debian also has the library for x86-64.
 packages="gcc-x86-64-linux-gnu g++-x86-64-linux-gnu qemu-user rustc-web libstd-rust-web-dev:amd64"
 missing=
 for package in $packages; do

@@ -314,15 +314,66 @@ fn what_is_said_to_be_tried_is_there() {
     assert_eq!(not_tried(&tried(made_up)), ["no_such_edit"]);
 }
 
+/// A line of code with every name, path and number made one letter, and without brackets.
+fn shape(line: &str) -> String {
+    let in_name = |c: char| c.is_alphanumeric() || matches!(c, '_' | ':');
+    let mut shape = String::new();
+    let mut named = false;
+    for c in line.chars().filter(|c| !matches!(c, '(' | ')')) {
+        if !in_name(c) {
+            shape.push(c);
+        } else if !named {
+            shape.push('n');
+        }
+        named = in_name(c);
+    }
+    shape
+}
+
+/// The lines of an edit of a source that differ in more than names and numbers.
+fn misshapen(edit: &str) -> Vec<&str> {
+    if !edit.lines().any(|line| line.starts_with("file: src/")) {
+        return Vec::new();
+    }
+    let of = |mark: &str| {
+        let lines = edit.lines().filter_map(move |line| line.strip_prefix(mark));
+        lines.collect::<Vec<_>>()
+    };
+    let (old, new) = (of("old: "), of("new: "));
+    assert_eq!(old.len(), new.len(), "an edit has as many new lines as old");
+    let pairs = old.into_iter().zip(new);
+    let changed = pairs.filter(|(old, new)| shape(old) != shape(new));
+    changed.map(|(_, new)| new).collect()
+}
+
+#[test]
+fn an_edit_that_must_be_refused_keeps_the_shape_of_the_code() {
+    let mut edits = 0;
+    for edit in files(&repository().join("crates"), "edit") {
+        let written = text(&edit);
+        let wrong = misshapen(&written);
+        assert_eq!(wrong, Vec::<&str>::new(), "{}", edit.display());
+        edits += 1;
+    }
+    assert!(edits > 40, "only {edits} edits were found");
+    let one = "file: src/a.rt\nold: if n < octets::MOST {\nnew: if n < 59 {\n";
+    assert_eq!(misshapen(one), Vec::<&str>::new());
+    let other = "file: src/a.rt\nold: if n < most {\nnew: if n < most - 2 {\n";
+    assert_eq!(misshapen(other), ["if n < most - 2 {"]);
+}
+
 /// The words of a code text, as names are written.
 fn words(code: &str) -> impl Iterator<Item = &str> {
     code.split(|c: char| !c.is_alphanumeric() && c != '_')
 }
 
 /// The names in a text that are the archive's, as far as they begin like one, and that a header does not have. What the tests
-/// take from their caller is named so too.
-fn not_in_header<'a>(text: &'a str, header: &str) -> BTreeSet<&'a str> {
-    let known: BTreeSet<&str> = words(header).chain(["OAM_ARCHIVE_DIR"]).collect();
+/// take from their caller is named so too, and so are the crates of its wing.
+fn not_in_header<'a>(text: &'a str, header: &str, crates: &str) -> BTreeSet<&'a str> {
+    let known = words(header)
+        .chain(words(crates))
+        .chain(["OAM_ARCHIVE_DIR"]);
+    let known: BTreeSet<&str> = known.collect();
     words(text)
         .filter(|word| word.starts_with("oam_") || word.starts_with("OAM_"))
         .filter(|word| !known.contains(word))
@@ -332,15 +383,16 @@ fn not_in_header<'a>(text: &'a str, header: &str) -> BTreeSet<&'a str> {
 #[test]
 fn every_entry_that_is_named_is_in_the_header() {
     let header = text(&repository().join("include/oam.h"));
+    let crates = text(&repository().join("crates.txt"));
     for document in documents() {
         let written = text(&document);
-        let missing = not_in_header(&written, &header);
+        let missing = not_in_header(&written, &header, &crates);
         let document = document.display();
         assert!(missing.is_empty(), "{document}: oam.h has no {missing:?}");
     }
-    let made_up = "`oam_tick(state)`, `oam_tock` and `OAM_TOCK`; OAM_ARCHIVE_DIR=x";
+    let made_up = "`oam_tick(state)`, `oam_tock` and `OAM_TOCK` of `oam_clock`; OAM_ARCHIVE_DIR=x";
     assert_eq!(
-        not_in_header(made_up, "uint64_t oam_tick(void);"),
+        not_in_header(made_up, "uint64_t oam_tick(void);", "oam_clock: octets"),
         BTreeSet::from(["OAM_TOCK", "oam_tock"])
     );
 }
@@ -392,18 +444,18 @@ fn paragraph<'a>(text: &'a str, start: &str) -> &'a str {
 
 #[test]
 fn every_function_that_gives_an_end_is_said_to_keep_the_ranges() {
-    let sources = files(&repository().join("crates/end"), "rt");
+    let sources = files(&repository().join("crates/link_end"), "rt");
     let sources: Vec<String> = sources.iter().map(|s| text(s)).collect();
     let functions = giving_an_end(&sources.join("\n"));
     assert!(functions.len() > 4, "only {} were found", functions.len());
     let promises = text(&repository().join("docs/PROMISES.md"));
     let start = "Every function that gives an end gives a ranged one for a ranged one";
-    let missing = not_named(paragraph(section(&promises, "end"), start), &functions);
+    let missing = not_named(paragraph(section(&promises, "link_end"), start), &functions);
     assert!(
         missing.is_empty(),
-        "under \"## end\" of docs/PROMISES.md the paragraph \"{start}\" does not name {missing:?}"
+        "under \"## link_end\" of docs/PROMISES.md the paragraph \"{start}\" does not name {missing:?}"
     );
-    let theorems = text(&repository().join("crates/reach/proofs/Guarding.antt"));
+    let theorems = text(&repository().join("crates/theorems_reach/proofs/Guarding.antt"));
     for function in &functions {
         let theorem = format!("{}-guarded", function.name.replace('_', "-"));
         assert!(

@@ -8,12 +8,12 @@ use native.Mathlib.Omega.{arith}
 use borrow.Author.Tests.{le-ltb}
 use lib.ListN.{length, getD, drop}
 use lib.Dec.{ltb}
-use Rattle.tlvs.specs.Walk.{Parsed, refused as unread, parts}
-use Rattle.body.specs.Information.{InformationPart, informationWalk, informationParts}
-use Rattle.tlvs.specs.declared.Event.{Event}
-use Rattle.body.specs.Judging.{localAt}
-use Rattle.body.proofs.Judging.{none-held, held-is-local}
-use Rattle.frame.specs.Frame.{Body, Message, codeOf, Answer, refused, accepted, information, notification, request, response, loopback, organization, saysAll, headerAnswer, bodyAnswer, decode, placeIn, judgement, judgementOf, headerIn, headerOf, eventNumber, commandOf, numberIn, fixedNumber, localOf}
+use Rattle.octets.specs.Layout.{shortestFrame, bodyStart}
+use Rattle.frame_body.specs.Information.{localIn}
+use Rattle.frame_tlvs.specs.declared.Event.{Event}
+use Rattle.frame_body.specs.Judging.{localAt}
+use Rattle.frame_body.proofs.Judging.{none-held, held-is-local}
+use Rattle.frame.specs.Frame.{Body, Message, codeOf, Answer, refused, accepted, information, notification, request, response, loopback, organization, headerAnswer, decode, placeIn, judgement, judgementOf, headerIn, headerOf, eventNumber, commandOf, numberIn, fixedNumber, localOf}
 use Rattle.frame.specs.Steps.{Stepped}
 use Rattle.frame.specs.declared.Judgement.the-variants.{Refused, Accepted}
 use Rattle.frame.proofs.Decoding.{header-long}
@@ -21,10 +21,10 @@ use Rattle.frame.proofs.Stepping.{shown}
 
 module _ (f : List ℕ) where
   -- a frame that passed the tests of its header has its fixed octets
-  long : headerAnswer f ≡ 0 → ltb (length f) 60 ≡ false
-  long h = le-ltb (length f) 60 (header-long f h)
+  long : headerAnswer f ≡ 0 → ltb (length f) shortestFrame ≡ false
+  long h = le-ltb (length f) shortestFrame (header-long f h)
 
-  number-by : ltb (length f) 60 ≡ false → (b : Body) → getD f 17 0 ≡ codeOf b → Stepped f b → fixedNumber f ≡ numberIn b
+  number-by : ltb (length f) shortestFrame ≡ false → (b : Body) → getD f 17 0 ≡ codeOf b → Stepped f b → fixedNumber f ≡ numberIn b
   unfolding fixedNumber
   number-by l (information ps) e h = rw (l, e)
   number-by l (notification n es) e h = rw (l, e) (sym (h .0))
@@ -53,29 +53,17 @@ module _ (f : List ℕ) where
         let h : Stepped f (loopback n) = subst (Stepped f) b (s .body) in
         rw (long (s .passed)) (sym h)
 
-    said-parts : (ps : List InformationPart) (x : Parsed InformationPart) → m .body ≡ information ps → saysAll f information x ≡ accepted m → x ≡ parts ps
-    said-parts ps (unread n) b e = let z : _≡_ {A = ℕ} 0 1 = cc in absurd (omega arith)
-    said-parts ps (parts qs) b e = cc
+    local-by : (b : Body) → m .body ≡ b → localAt (drop bodyStart f) (placeIn (drop bodyStart f) b) ≡ localOf b
+    local-by (information ps) e =
+        let met : Stepped f (information ps) = subst (Stepped f) e (shown f m d .body) in
+        held-is-local (drop bodyStart f) ∙ ap localIn (sym met)
+    local-by (notification n es) e = none-held (drop bodyStart f)
+    local-by (request ds) e = none-held (drop bodyStart f)
+    local-by (response cs) e = none-held (drop bodyStart f)
+    local-by (loopback n) e = none-held (drop bodyStart f)
+    local-by (organization oui x) e = none-held (drop bodyStart f)
 
-    -- an Information body has the parts that its message says
-    information-parts : (ps : List InformationPart) → m .body ≡ information ps → informationParts false false (informationWalk (drop 18 f)) ≡ parts ps
-    unfolding decode bodyAnswer
-    information-parts ps b =
-        let s = shown f m d in
-        let code : getD f 17 0 ≡ 0 = s .code ∙ ap codeOf b in
-        let x = informationParts false false (informationWalk (drop 18 f)) in
-        let says : decode f ≡ saysAll f information x = rw (s .passed, code) in
-        said-parts ps x b (sym says ∙ d)
-
-    local-by : (b : Body) → m .body ≡ b → localAt (drop 18 f) (placeIn (drop 18 f) b) ≡ localOf b
-    local-by (information ps) e = held-is-local (drop 18 f) ps (information-parts ps e)
-    local-by (notification n es) e = none-held (drop 18 f)
-    local-by (request ds) e = none-held (drop 18 f)
-    local-by (response cs) e = none-held (drop 18 f)
-    local-by (loopback n) e = none-held (drop 18 f)
-    local-by (organization oui x) e = none-held (drop 18 f)
-
-    pub local-agrees : localAt (drop 18 f) (placeIn (drop 18 f) (m .body)) ≡ localOf (m .body)
+    pub local-agrees : localAt (drop bodyStart f) (placeIn (drop bodyStart f) (m .body)) ≡ localOf (m .body)
     local-agrees = local-by (m .body) refl
 
 -- what is taken from the octets of an accepted frame, its Local from where it is judged to stand, is what its message says
@@ -83,7 +71,7 @@ pub record Agrees (f : List ℕ) (at : ℕ) (m : Message) : Type 0 where
   pub decoded : decode f ≡ accepted m
   pub header : headerOf f ≡ headerIn m
   pub number : fixedNumber f ≡ numberIn (m .body)
-  pub local : localAt (drop 18 f) at ≡ localOf (m .body)
+  pub local : localAt (drop bodyStart f) at ≡ localOf (m .body)
 
 module _ (f : List ℕ) where
   pub judged-accepted : (at : ℕ) → judgementOf f ≡ Accepted at → (m : Message) × Agrees f at m
@@ -93,13 +81,13 @@ module _ (f : List ℕ) where
       go : (a : Answer) → decode f ≡ a → judgement f a ≡ Accepted at → (m : Message) × Agrees f at m
       go (refused n) d e = let z : _≡_ {A = ℕ} 0 1 = cc in absurd (omega arith)
       go (accepted m) d e =
-          let there : placeIn (drop 18 f) (m .body) ≡ at = cc in (
+          let there : placeIn (drop bodyStart f) (m .body) ≡ at = cc in (
             m,
             record {
               decoded = d;
               header = header-agrees f m d;
               number = number-agrees f m d;
-              local = subst (λ (n : ℕ). localAt (drop 18 f) n ≡ localOf (m .body)) there (local-agrees f m d);
+              local = subst (λ (n : ℕ). localAt (drop bodyStart f) n ≡ localOf (m .body)) there (local-agrees f m d);
             },
           )
 

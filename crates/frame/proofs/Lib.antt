@@ -1,3 +1,4 @@
+-- The laws of frames and their flags that the crates above use.
 pub mod Decoding
 pub mod Judging
 pub mod Stepping

@@ -8,14 +8,15 @@ use native.Mathlib.Omega.{arith}
 use borrow.Author.Tests.{eqb-true, eqb-false}
 use lib.ListN.{length, getD, drop}
 use lib.Dec.{ltb, eqb}
-use Rattle.tlvs.specs.Octets.{num}
-use Rattle.tlvs.specs.Walk.{Walk, ends, breaks, over, part, met, Parsed, refused as unread, parts, also, listed}
-use Rattle.body.specs.Information.{InformationPart, local, remote, informationWalk, informationParts}
-use Rattle.tlvs.specs.Events.{eventWalk}
-use Rattle.body.specs.Variables.{descriptorWalk, containerWalk}
+use Rattle.octets.specs.Octets.{num}
+use Rattle.octets.specs.Layout.{shortestFrame, longestFrame, destination, lengthType, subtype, bodyStart, eventsStart, dataStart}
+use Rattle.frame_tlvs.specs.Walk.{Walk, ends, breaks, over, part, met, Parsed, refused as unread, parts, also, listed}
+use Rattle.frame_body.specs.Information.{InformationPart, local, remote, informationWalk, informationParts}
+use Rattle.frame_tlvs.specs.Events.{eventWalk}
+use Rattle.frame_body.specs.Variables.{descriptorWalk, containerWalk}
 use Rattle.frame.specs.Frame.{Body, Message, codeOf, Answer, refused, accepted, information, notification, request, response, loopback, organization, says, saysAll, headerAnswer, bodyAnswer, decode}
 use Rattle.frame.specs.Steps.{Stepped}
-use Rattle.tlvs.proofs.Walks.{by-cond}
+use Rattle.octets.proofs.Bools.{by-cond}
 
 -- the number of a frame's refusal
 abbrev Given : ℕ → Type 0
@@ -62,10 +63,10 @@ module _ (f : List ℕ) where
   unfolding headerAnswer
   header-tells =
       let P : ℕ → Type 0 = λ (n : ℕ). (n ≡ 0 → ⊥) → Given n in
-      by-cond P (ltb (length f) 60 || ltb 1514 (length f)) (λ _ _. (omega arith, omega arith)) (λ _.
-      by-cond P (not (eqb (num 6 f 0) 0x0180_c200_0002)) (λ _ _. (omega arith, omega arith)) (λ _.
-      by-cond P (not (eqb (num 2 f 12) 0x8809)) (λ _ _. (omega arith, omega arith)) (λ _.
-      by-cond P (not (eqb (getD f 14 0) 3)) (λ _ _. (omega arith, omega arith)) (λ _ z. absurd (z refl)))))
+      by-cond P (ltb (length f) shortestFrame || ltb longestFrame (length f)) (λ _ _. (omega arith, omega arith)) (λ _.
+      by-cond P (not (eqb (num 6 f 0) destination)) (λ _ _. (omega arith, omega arith)) (λ _.
+      by-cond P (not (eqb (num 2 f 12) lengthType)) (λ _ _. (omega arith, omega arith)) (λ _.
+      by-cond P (not (eqb (getD f 14 0) subtype)) (λ _ _. (omega arith, omega arith)) (λ _ z. absurd (z refl)))))
 
   module _ (h : headerAnswer f ≡ 0) where
     tells : (b : Body) → eqb (getD f 17 0) (codeOf b) ≡ true → Stepped f b → Tells (says f b)
@@ -80,17 +81,17 @@ module _ (f : List ℕ) where
     unfolding bodyAnswer
     body-tells =
         let code = getD f 17 0 in
-        let command = getD f 18 0 in
-        let i = informationWalk (drop 18 f) in
-        let e = eventWalk (drop 20 f) in
-        let d = descriptorWalk (drop 18 f) in
-        let c = containerWalk (drop 18 f) in
+        let command = getD f bodyStart 0 in
+        let i = informationWalk (drop bodyStart f) in
+        let e = eventWalk (drop eventsStart f) in
+        let d = descriptorWalk (drop bodyStart f) in
+        let c = containerWalk (drop bodyStart f) in
         by-cond Tells (eqb code 0) (λ t. tells-all information i (informationParts false false i) (parses-information false false i) (λ _. t) (λ _ s. s)) (λ _.
-        by-cond Tells (eqb code 1) (λ t. tells-all (notification (num 2 f 18)) e (listed e) (parses-listed e) (λ _. t) (λ _ s. (refl, s))) (λ _.
+        by-cond Tells (eqb code 1) (λ t. tells-all (notification (num 2 f bodyStart)) e (listed e) (parses-listed e) (λ _. t) (λ _ s. (refl, s))) (λ _.
         by-cond Tells (eqb code 2) (λ t. tells-all request d (listed d) (parses-listed d) (λ _. t) (λ _ s. s)) (λ _.
         by-cond Tells (eqb code 3) (λ t. tells-all response c (listed c) (parses-listed c) (λ _. t) (λ _ s. s)) (λ _.
         by-cond Tells (eqb code 4) (λ t. by-cond Tells (eqb command 1 || eqb command 2) (λ _. tells (loopback command) t refl) (λ _. (omega arith, omega arith))) (λ _.
-        by-cond Tells (eqb code 0xfe) (λ t. tells (organization (num 3 f 18) (drop 21 f)) t (refl, refl)) (λ _. (omega arith, omega arith)))))))
+        by-cond Tells (eqb code 0xfe) (λ t. tells (organization (num 3 f bodyStart) (drop dataStart f)) t (refl, refl)) (λ _. (omega arith, omega arith)))))))
 
   answer-tells : Tells (decode f)
   unfolding decode

@@ -1,7 +1,7 @@
 -- The flags number and its parts.
 use Prim.Native.Nat.{ℕ, _+_, _*_, _/_, _%_}
 use lib.Dec.{eqb}
-use Rattle.tlvs.specs.Octets.{bitOf}
+use Rattle.octets.specs.Bits.{bitOf}
 use Rattle.frame.specs.declared.Flags.{Flags}
 
 -- "Flags: bit 0 link fault, 1 dying gasp, 2 critical event, 4:3 local field, 6:5 remote field, others sent 0 and ignored."
@@ -16,5 +16,5 @@ flagsOf n =
     }
 
 -- the number of the parts, each field cut to its two bits; the other bits are "sent 0"
-unfoldable pub joined : Flags → ℕ
-joined f = f .remote % 4 * 32 + (f .local % 4 * 8 + (bitOf (f .critical) * 4 + (bitOf (f .gasp) * 2 + bitOf (f .fault))))
+unfoldable pub flagsNumber : Flags → ℕ
+flagsNumber f = f .remote % 4 * 32 + (f .local % 4 * 8 + (bitOf (f .critical) * 4 + (bitOf (f .gasp) * 2 + bitOf (f .fault))))

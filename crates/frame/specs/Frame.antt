@@ -4,15 +4,16 @@ use mathlib.Core.List.{List}
 use mathlib.Core.Bool.{false, not, cond, _||_}
 use lib.ListN.{length, getD, drop}
 use lib.Dec.{ltb, eqb}
-use Rattle.tlvs.specs.Octets.{num}
-use Rattle.tlvs.specs.Walk.{Parsed, refused as unread, parts, listed}
-use Rattle.body.specs.Information.{InformationPart, informationWalk, informationParts, localIn}
-use Rattle.body.specs.Judging.{localPlace}
-use Rattle.tlvs.specs.Events.{eventWalk}
-use Rattle.body.specs.Variables.{Container, descriptorWalk, containerWalk}
-use Rattle.tlvs.specs.declared.Event.{Event}
-use Rattle.body.specs.declared.Held.{Held}
-use Rattle.body.specs.declared.Held.the-variants.{Nothing}
+use Rattle.octets.specs.Octets.{num}
+use Rattle.octets.specs.Layout.{shortestFrame, longestFrame, destination, lengthType, subtype, bodyStart, eventsStart, dataStart}
+use Rattle.frame_tlvs.specs.Walk.{Parsed, refused as unread, parts, listed}
+use Rattle.frame_body.specs.Information.{InformationPart, informationWalk, informationParts, localIn}
+use Rattle.frame_body.specs.Judging.{localPlace}
+use Rattle.frame_tlvs.specs.Events.{eventWalk}
+use Rattle.frame_body.specs.Variables.{Container, descriptorWalk, containerWalk}
+use Rattle.frame_tlvs.specs.declared.Event.{Event}
+use Rattle.frame_body.specs.declared.Held.{Held}
+use Rattle.frame_body.specs.declared.Held.the-variants.{Nothing}
 use Rattle.frame.specs.declared.Header.{Header}
 use Rattle.frame.specs.declared.Judgement.{Judgement}
 use Rattle.frame.specs.declared.Judgement.the-variants.{Refused, Accepted}
@@ -49,10 +50,10 @@ pub data Answer : Type 0 where
 -- 01-80-C2-00-00-02", "Length/Type is not 88-09", "subtype is not 3".
 unfoldable pub headerAnswer : List ℕ → ℕ
 headerAnswer f =
-    cond (ltb (length f) 60 || ltb 1514 (length f)) 1
-    (cond (not (eqb (num 6 f 0) 0x0180_c200_0002)) 2
-    (cond (not (eqb (num 2 f 12) 0x8809)) 3
-    (cond (not (eqb (getD f 14 0) 3)) 4
+    cond (ltb (length f) shortestFrame || ltb longestFrame (length f)) 1
+    (cond (not (eqb (num 6 f 0) destination)) 2
+    (cond (not (eqb (num 2 f 12) lengthType)) 3
+    (cond (not (eqb (getD f 14 0) subtype)) 4
     0)))
 
 -- "Destination 6, source 6, type 2, subtype 1, flags 2, code 1; the body starts at octet 18."
@@ -68,12 +69,12 @@ saysAll f make (parts ps) = says f (make ps)
 -- included." "loopback command is not 1 or 2" is 8, "code is 05 to FD, or FF" is 5.
 unfoldable pub bodyAnswer : List ℕ → ℕ → Answer
 bodyAnswer f code =
-    cond (eqb code 0) (saysAll f information (informationParts false false (informationWalk (drop 18 f))))
-    (cond (eqb code 1) (saysAll f (notification (num 2 f 18)) (listed (eventWalk (drop 20 f))))
-    (cond (eqb code 2) (saysAll f request (listed (descriptorWalk (drop 18 f))))
-    (cond (eqb code 3) (saysAll f response (listed (containerWalk (drop 18 f))))
-    (cond (eqb code 4) (cond (eqb (getD f 18 0) 1 || eqb (getD f 18 0) 2) (says f (loopback (getD f 18 0))) (refused 8))
-    (cond (eqb code 0xfe) (says f (organization (num 3 f 18) (drop 21 f)))
+    cond (eqb code 0) (saysAll f information (informationParts false false (informationWalk (drop bodyStart f))))
+    (cond (eqb code 1) (saysAll f (notification (num 2 f bodyStart)) (listed (eventWalk (drop eventsStart f))))
+    (cond (eqb code 2) (saysAll f request (listed (descriptorWalk (drop bodyStart f))))
+    (cond (eqb code 3) (saysAll f response (listed (containerWalk (drop bodyStart f))))
+    (cond (eqb code 4) (cond (eqb (getD f bodyStart 0) 1 || eqb (getD f bodyStart 0) 2) (says f (loopback (getD f bodyStart 0))) (refused 8))
+    (cond (eqb code 0xfe) (says f (organization (num 3 f bodyStart) (drop dataStart f)))
     (refused 5))))))
 
 -- "Reading: 1 to 5 in order, then the body in octet order; at one TLV 6 comes before 7."
@@ -92,7 +93,7 @@ placeIn s (organization oui x) = length s
 -- what a frame comes to: its answer, and where the Local TLV stands in its body
 abbrev pub judgement : List ℕ → Answer → Judgement
 judgement f (refused n) = Refused n
-judgement f (accepted m) = Accepted (placeIn (drop 18 f) (m .body))
+judgement f (accepted m) = Accepted (placeIn (drop bodyStart f) (m .body))
 
 unfoldable pub judgementOf : List ℕ → Judgement
 judgementOf f = judgement f (decode f)
@@ -105,15 +106,15 @@ headerIn m = record { source = m .source; flags = m .flags; code = codeOf (m .bo
 -- zeros where a frame is shorter than any that is accepted
 unfoldable pub headerOf : List ℕ → Header
 headerOf f =
-    cond (ltb (length f) 60) (record { source = 0; flags = 0; code = 0 })
+    cond (ltb (length f) shortestFrame) (record { source = 0; flags = 0; code = 0 })
     (record { source = num 6 f 6; flags = num 2 f 15; code = getD f 17 0 })
 
 -- the number of a notification and the command of a Loopback Control frame
 unfoldable pub eventNumber : List ℕ → ℕ
-eventNumber f = cond (ltb (length f) 60) 0 (num 2 f 18)
+eventNumber f = cond (ltb (length f) shortestFrame) 0 (num 2 f bodyStart)
 
 unfoldable pub commandOf : List ℕ → ℕ
-commandOf f = cond (ltb (length f) 60) 0 (getD f 18 0)
+commandOf f = cond (ltb (length f) shortestFrame) 0 (getD f bodyStart 0)
 
 -- the number at the start of a body: the event number, the command or the OUI
 abbrev pub numberIn : Body → ℕ
@@ -126,10 +127,10 @@ numberIn (organization oui x) = oui
 
 unfoldable pub fixedNumber : List ℕ → ℕ
 fixedNumber f =
-    cond (ltb (length f) 60) 0
-    (cond (eqb (getD f 17 0) 1) (num 2 f 18)
-    (cond (eqb (getD f 17 0) 4) (getD f 18 0)
-    (cond (eqb (getD f 17 0) 0xfe) (num 3 f 18)
+    cond (ltb (length f) shortestFrame) 0
+    (cond (eqb (getD f 17 0) 1) (num 2 f bodyStart)
+    (cond (eqb (getD f 17 0) 4) (getD f bodyStart 0)
+    (cond (eqb (getD f 17 0) 0xfe) (num 3 f bodyStart)
     0)))
 
 abbrev pub localOf : Body → Held

@@ -1,3 +1,4 @@
+-- What the promises of frame cite, and those of the crates above.
 pub mod Flags
 pub mod Frame
 pub mod Reader

@@ -4,11 +4,12 @@ use mathlib.Core.List.{List}
 use mathlib.Core.Bool.{Bool, cond}
 use lib.ListN.{length, getD, drop}
 use lib.Dec.{eqb}
-use Rattle.body.specs.Lists.{wholeList}
-use Rattle.body.specs.Judging.{judgedOf}
-use Rattle.body.specs.declared.Judged.{Judged}
-use Rattle.body.specs.declared.Judged.the-variants.{Refused as RefusedBody, Whole}
-use Rattle.body.specs.declared.ListKind.the-variants.{Events, Descriptors, Containers}
+use Rattle.octets.specs.Layout.{bodyStart, eventsStart}
+use Rattle.frame_body.specs.Lists.{wholeList}
+use Rattle.frame_body.specs.Judging.{judgedInformation}
+use Rattle.frame_body.specs.declared.Judged.{Judged}
+use Rattle.frame_body.specs.declared.Judged.the-variants.{Refused as RefusedBody, Whole}
+use Rattle.frame_body.specs.declared.ListKind.the-variants.{Events, Descriptors, Containers}
 use Rattle.frame.specs.declared.Judgement.{Judgement}
 use Rattle.frame.specs.declared.Judgement.the-variants.{Refused, Accepted}
 
@@ -21,16 +22,16 @@ commandAnswer n = cond (eqb n 1) 0 (cond (eqb n 2) 0 8)
 -- the answer to the body of a code other than 00
 unfoldable pub otherAnswer : List ℕ → ℕ → ℕ
 otherAnswer f code =
-    cond (eqb code 1) (listAnswer (wholeList Events (drop 20 f)))
-    (cond (eqb code 2) (listAnswer (wholeList Descriptors (drop 18 f)))
-    (cond (eqb code 3) (listAnswer (wholeList Containers (drop 18 f)))
-    (cond (eqb code 4) (commandAnswer (getD f 18 0))
+    cond (eqb code 1) (listAnswer (wholeList Events (drop eventsStart f)))
+    (cond (eqb code 2) (listAnswer (wholeList Descriptors (drop bodyStart f)))
+    (cond (eqb code 3) (listAnswer (wholeList Containers (drop bodyStart f)))
+    (cond (eqb code 4) (commandAnswer (getD f bodyStart 0))
     (cond (eqb code 0xfe) 0
     5))))
 
 -- an answer to a body of some octets that has no Local TLV
-abbrev pub answered : ℕ → ℕ → Judgement
-answered answer octets = cond (eqb answer 0) (Accepted octets) (Refused answer)
+abbrev pub otherJudgement : ℕ → ℕ → Judgement
+otherJudgement answer octets = cond (eqb answer 0) (Accepted octets) (Refused answer)
 
 abbrev pub informationJudgement : Judged → Judgement
 informationJudgement (RefusedBody n) = Refused n
@@ -38,5 +39,5 @@ informationJudgement (Whole at) = Accepted at
 
 unfoldable pub bodyJudgement : List ℕ → Judgement
 bodyJudgement f =
-    cond (eqb (getD f 17 0) 0) (informationJudgement (judgedOf (drop 18 f)))
-    (answered (otherAnswer f (getD f 17 0)) (length (drop 18 f)))
+    cond (eqb (getD f 17 0) 0) (informationJudgement (judgedInformation (drop bodyStart f)))
+    (otherJudgement (otherAnswer f (getD f 17 0)) (length (drop bodyStart f)))

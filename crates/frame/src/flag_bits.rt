@@ -1,10 +1,10 @@
 // The flags number of a frame, taken apart and put together by shifts and masks.
 ghost use mathlib.Core.Path.{_≡_};
-ghost use Rattle.tlvs.specs.Octets.{bitOf};
-ghost use Rattle.frame.specs.Flags.{flagsOf, joined};
+ghost use Rattle.octets.specs.Bits.{bitOf};
+ghost use Rattle.frame.specs.Flags.{flagsOf, flagsNumber};
 use crate::Flags;
 
-pub fn split_flags(flags: u16) -> Flags
+pub fn flags_of(flags: u16) -> Flags
     ensures { λ r. ⌜ r ≡ flagsOf flags ⌝ }
 {
     Flags {
@@ -16,19 +16,13 @@ pub fn split_flags(flags: u16) -> Flags
     }
 }
 
-fn bit(on: bool) -> u16
-    ensures { λ r. ⌜ r ≡ bitOf on ⌝ }
-{
-    if on { 1 } else { 0 }
-}
-
 // The flags number of its parts, each field cut to its two bits.
-pub fn join_flags(flags: Flags) -> u16
-    ensures { λ r. ⌜ r ≡ joined flags ⌝ }
+pub fn flags_number(flags: Flags) -> u16
+    ensures { λ r. ⌜ r ≡ flagsNumber flags ⌝ }
 {
     (flags.remote & 3) << 5
         | (flags.local & 3) << 3
-        | bit(flags.critical) << 2
-        | bit(flags.gasp) << 1
-        | bit(flags.fault)
+        | (octets::bit_of(flags.critical) as u16) << 2
+        | (octets::bit_of(flags.gasp) as u16) << 1
+        | (octets::bit_of(flags.fault) as u16)
 }

@@ -1,15 +1,15 @@
 // OAM frames of IEEE 802.3ah Clause 57: from octets to what they say.
 //
-// `judge` answers for a whole frame. Of one that it accepts, `header_of` gives the header, `fixed_number`, `event_number` and
-// `command_of` the number at the body's start, `local_at` of `body` the Local TLV, and the steps of `body` and `tlvs` the parts in
-// order, over `body(frame)`, or over `events_body(frame)` for the events of a notification.
+// `judgement_of` answers for a whole frame. Of one that it accepts, `header_of` gives the header, `fixed_number`, `event_number`
+// and `command_of` the number at the body's start, `local_at` of `frame_body` the Local TLV, and the steps of `frame_body` and
+// `frame_tlvs` the parts in order, over `body(frame)`, or over `events_body(frame)` for the events of a notification.
 mod flag_bits;
 mod numbers;
 mod parts;
 mod reader;
 
-pub use flag_bits::join_flags;
-pub use flag_bits::split_flags;
+pub use flag_bits::flags_number;
+pub use flag_bits::flags_of;
 pub use numbers::command_of;
 pub use numbers::event_number;
 pub use numbers::fixed_number;
@@ -17,7 +17,7 @@ pub use numbers::header_of;
 pub use parts::body;
 pub use parts::events_body;
 pub use parts::organization_data;
-pub use reader::judge;
+pub use reader::judgement_of;
 
 // What stands before every body: the source address as a number, the flags (all sixteen bits) and the code.
 pub struct Header {

@@ -2,12 +2,13 @@
 ghost use mathlib.Core.Path.{_≡_};
 ghost use Rattle.frame.specs.Frame.{headerOf, eventNumber, commandOf, fixedNumber};
 use crate::Header;
+use octets::BODY_START;
 
 // What stands before the body; zeros where a frame is too short to be accepted.
 pub fn header_of(frame: &[u8]) -> Header
     ensures { λ r. ⌜ r ≡ headerOf (now (frame .entry)) ⌝ }
 {
-    if frame.len() < 60 {
+    if frame.len() < octets::SHORTEST_FRAME {
         return Header {
             source: 0,
             flags: 0,
@@ -15,11 +16,11 @@ pub fn header_of(frame: &[u8]) -> Header
         };
     }
     // the source's low octets before its high ones: the compiler then takes those four at once
-    let low = tlvs::join_four(frame[8], frame[9], frame[10], frame[11]);
-    let high = tlvs::join_two(frame[6], frame[7]);
+    let low = octets::join_four(frame[8], frame[9], frame[10], frame[11]);
+    let high = octets::join_two(frame[6], frame[7]);
     Header {
         source: (high as u64) * 0x100000000 + (low as u64),
-        flags: tlvs::join_two(frame[15], frame[16]),
+        flags: octets::join_two(frame[15], frame[16]),
         code: frame[17],
     }
 }
@@ -28,34 +29,38 @@ pub fn header_of(frame: &[u8]) -> Header
 pub fn event_number(frame: &[u8]) -> u16
     ensures { λ r. ⌜ r ≡ eventNumber (now (frame .entry)) ⌝ }
 {
-    if frame.len() < 60 {
+    if frame.len() < octets::SHORTEST_FRAME {
         return 0;
     }
-    tlvs::join_two(frame[18], frame[19])
+    octets::join_two(frame[BODY_START], frame[BODY_START + 1])
 }
 
 // The command of a Loopback Control frame; 0 where a frame is too short to be accepted.
 pub fn command_of(frame: &[u8]) -> u8
     ensures { λ r. ⌜ r ≡ commandOf (now (frame .entry)) ⌝ }
 {
-    if frame.len() < 60 {
+    if frame.len() < octets::SHORTEST_FRAME {
         return 0;
     }
-    frame[18]
+    frame[BODY_START]
 }
 
 // The number at the start of the body: the event number, the command or the OUI, by the code; 0 where there is none.
 pub fn fixed_number(frame: &[u8]) -> u32
     ensures { λ r. ⌜ r ≡ fixedNumber (now (frame .entry)) ⌝ }
 {
-    if frame.len() < 60 {
+    if frame.len() < octets::SHORTEST_FRAME {
         return 0;
     }
     let code = frame[17];
     match code {
-        1 => tlvs::join_two(frame[18], frame[19]) as u32,
-        4 => frame[18] as u32,
-        0xfe => tlvs::join_three(frame[18], frame[19], frame[20]),
+        1 => octets::join_two(frame[BODY_START], frame[BODY_START + 1]) as u32,
+        4 => frame[BODY_START] as u32,
+        0xfe => octets::join_three(
+            frame[BODY_START],
+            frame[BODY_START + 1],
+            frame[BODY_START + 2],
+        ),
         _ => 0,
     }
 }

@@ -7,15 +7,15 @@ use borrow.Author.Tests.{ne-eqb}
 use lib.Dec.{eqb}
 use lib.ListN.{length}
 use Rattle.frame.specs.Frame.{Body, Message}
-use Rattle.writer.specs.Writing.{writes, written, Writing, messageOf}
-use Rattle.writer.specs.declared.Written.{Written}
-use Rattle.writer.specs.Plain.{sized}
-use Rattle.tlvs.proofs.Walks.{by-cond}
-use Rattle.end.specs.declared.End.{End}
-use Rattle.end.specs.declared.Decided.{Decided}
-use Rattle.end.specs.declared.Shown.the-variants.{Nothing}
-use Rattle.end.specs.Sending.{dues, flagsToSend}
-use Rattle.end.specs.Granting.{answerTo, granted, decided}
+use Rattle.frame_writer.specs.Writing.{writes, written, Writing, messageOf}
+use Rattle.frame_writer.specs.declared.Written.{Written}
+use Rattle.frame_writer.specs.Plain.{sized}
+use Rattle.octets.proofs.Bools.{by-cond}
+use Rattle.link_end.specs.declared.End.{End}
+use Rattle.link_end.specs.declared.Decided.{Decided}
+use Rattle.link_end.specs.declared.News.the-variants.{Nothing}
+use Rattle.link_end.specs.Sending.{dues, flagsToSend}
+use Rattle.link_end.specs.Granting.{answerTo, granted, decided}
 use Rattle.link.specs.declared.Outcome.{Outcome}
 use Rattle.link.specs.Outcomes.{lengthOf, outcome}
 use Rattle.link.specs.Requests.{Asked, requestToSend, concludedRequest, concludedRequestOutput, asks, asksOutput, requestOf, requestOutput}

@@ -2,13 +2,13 @@
 use Prim.Native.Nat.{ℕ}
 use mathlib.Core.Path.{_≡_, refl}
 use mathlib.Core.Bool.{Bool, true, false, cond}
-use Rattle.end.specs.declared.End.{End}
-use Rattle.end.specs.declared.Shown.{Shown}
-use Rattle.end.specs.Sending.{sends, sent, afterSending}
+use Rattle.link_end.specs.declared.End.{End}
+use Rattle.link_end.specs.declared.News.{News}
+use Rattle.link_end.specs.Sending.{sends, sent, afterSending}
 use Rattle.link.specs.Outcomes.{outcome, concluded, owedLength, lengthOf, informationToSend}
-use Rattle.writer.specs.Writing.{writes}
+use Rattle.frame_writer.specs.Writing.{writes}
 
-pub concludes : (octets : ℕ) (shown : Shown) (e : End) → outcome (afterSending e) 0 (owedLength octets e) shown ≡ concluded octets shown e
+pub concludes : (octets : ℕ) (shown : News) (e : End) → outcome (afterSending e) 0 (owedLength octets e) shown ≡ concluded octets shown e
 unfolding concluded
 concludes octets shown e = go (sends e)
   where

@@ -4,14 +4,14 @@ use mathlib.Core.List.{List}
 use mathlib.Core.Bool.{cond}
 use lib.ListN.{length}
 use Rattle.frame.specs.Frame.{decode}
-use Rattle.end.specs.declared.End.{End}
-use Rattle.end.specs.declared.Shown.the-variants.{Nothing}
+use Rattle.link_end.specs.declared.End.{End}
+use Rattle.link_end.specs.declared.News.the-variants.{Nothing}
 use Rattle.link.specs.declared.Outcome.{Outcome}
-use Rattle.end.specs.declared.Heard.{Heard}
-use Rattle.end.specs.declared.Said.{Said}
-use Rattle.end.specs.declared.Said.the-variants.{Refusal, Is}
-use Rattle.end.specs.Hearing.{saidBy}
-use Rattle.end.specs.Taking.{taken, takenDue}
+use Rattle.link_end.specs.declared.Heard.{Heard}
+use Rattle.link_end.specs.declared.Said.{Said}
+use Rattle.link_end.specs.declared.Said.the-variants.{Refusal, Is}
+use Rattle.link_end.specs.Hearing.{saidBy}
+use Rattle.link_end.specs.Taking.{taken, takenDue}
 use Rattle.link.specs.Outcomes.{tooShort, outcome, concluded, concludedOutput}
 
 unfoldable pub concludedHeard : ℕ → Heard → End → Outcome

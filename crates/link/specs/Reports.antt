@@ -3,12 +3,12 @@ use Prim.Native.Nat.{ℕ}
 use mathlib.Core.List.{List}
 use mathlib.Core.Bool.{cond}
 use lib.ListN.{length}
-use Rattle.end.specs.declared.End.{End}
-use Rattle.end.specs.declared.Report.{Report}
-use Rattle.end.specs.declared.Shown.the-variants.{Nothing}
+use Rattle.link_end.specs.declared.End.{End}
+use Rattle.link_end.specs.declared.Report.{Report}
+use Rattle.link_end.specs.declared.News.the-variants.{Nothing}
 use Rattle.link.specs.declared.Outcome.{Outcome}
 use Rattle.link.specs.Outcomes.{tooShort, outcome, concluded, concludedOutput}
-use Rattle.end.specs.Reporting.{reportedDue}
+use Rattle.link_end.specs.Reporting.{reportedDue}
 
 unfoldable pub reportOf : Report → ℕ → End → Outcome
 reportOf r octets e = cond (tooShort octets) (outcome e 9 0 Nothing) (concluded octets Nothing (reportedDue r e))

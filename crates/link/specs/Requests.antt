@@ -5,16 +5,16 @@ use mathlib.Core.Bool.{Bool, true, cond}
 use lib.Dec.{eqb}
 use lib.ListN.{length}
 use Rattle.frame.specs.Frame.{Body, notification, request, loopback, organization, Message}
-use Rattle.writer.specs.Plain.{sized}
-use Rattle.writer.specs.Writing.{writes, written, messageOf, eventsOf}
-use Rattle.peer.specs.Bits.{bit}
-use Rattle.end.specs.declared.End.{End}
-use Rattle.end.specs.declared.Decided.{Decided}
-use Rattle.end.specs.declared.Shown.the-variants.{Nothing}
+use Rattle.frame_writer.specs.Plain.{sized}
+use Rattle.frame_writer.specs.Writing.{writes, written, messageOf, eventsOf}
+use Rattle.octets.specs.Bits.{bit}
+use Rattle.link_end.specs.declared.End.{End}
+use Rattle.link_end.specs.declared.Decided.{Decided}
+use Rattle.link_end.specs.declared.News.the-variants.{Nothing}
 use Rattle.link.specs.declared.Outcome.{Outcome}
-use Rattle.end.specs.Sending.{flagsToSend}
+use Rattle.link_end.specs.Sending.{flagsToSend}
 use Rattle.link.specs.Outcomes.{lengthOf, outcome}
-use Rattle.end.specs.Granting.{answerTo, decided, numbered, startAllowed, started, stopAllowed, stopped}
+use Rattle.link_end.specs.Granting.{answerTo, decided, numbered, startAllowed, started, stopAllowed, stopped}
 
 -- a request: whether the role, the mode and the peer's capability allow it, what it makes of the end, and the body of its frame
 pub record Asked : Type 0 where

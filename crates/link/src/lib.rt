@@ -9,9 +9,9 @@ mod reporting;
 mod requesting;
 mod ticking;
 
-use end::End;
-use end::Shown;
 pub use hearing::receive;
+use link_end::End;
+use link_end::News;
 pub use reporting::take_report;
 pub use requesting::notify;
 pub use requesting::request_variables;
@@ -24,6 +24,6 @@ pub struct Outcome {
     pub end: End,
     pub answer: u8,
     pub length: usize,
-    pub state: u8,
-    pub shown: Shown,
+    pub octet: u8,
+    pub shown: News,
 }

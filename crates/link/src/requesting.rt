@@ -7,31 +7,36 @@ ghost use Rattle.link.specs.Requests.{starting, stopping, requesting, no
 use crate::Outcome;
 use crate::concluding::length_of;
 use crate::concluding::outcome;
-use end::Decided;
-use end::End;
-use end::Shown;
-use writer::Written;
+use frame_writer::Written;
+use link_end::Decided;
+use link_end::End;
+use link_end::News;
 
 fn refuse(e: End, answer: u8) -> Outcome
-    ensures { λ r. ⌜ r ≡ outcome e answer 0 Shown.Nothing ⌝ }
+    ensures { λ r. ⌜ r ≡ outcome e answer 0 News.Nothing ⌝ }
 {
-    outcome(e, answer, 0, Shown::Nothing)
+    outcome(e, answer, 0, News::Nothing)
 }
 
 fn send(e: End, written: Written) -> Outcome
-    ensures { λ r. ⌜ r ≡ outcome e 0 (lengthOf written) Shown.Nothing ⌝ }
+    ensures { λ r. ⌜ r ≡ outcome e 0 (lengthOf written) News.Nothing ⌝ }
 {
-    outcome(e, 0, length_of(written), Shown::Nothing)
+    outcome(e, 0, length_of(written), News::Nothing)
 }
 
 // A loopback command that is decided.
-fn order(decided: Decided, command: u8, out: &mut [u8]) -> Outcome
+fn conclude_loopback(decided: Decided, command: u8, out: &mut [u8]) -> Outcome
     ensures { λ r. ⌜ (r ≡ concludedRequest decided (loopback command) (length (now (out .entry)))) × (now (out .exit) ≡ concludedRequestOutput decided (loopback command) (now (out .entry))) ⌝ }
 {
     let after = decided.end;
     if decided.answer == 0 {
         let settings = after.settings();
-        let written = writer::write_loopback(settings.source, end::flags(after), command, out);
+        let written = frame_writer::write_loopback(
+            settings.source,
+            link_end::flags_to_send(after),
+            command,
+            out,
+        );
         return send(after, written);
     }
     refuse(after, decided.answer)
@@ -41,14 +46,14 @@ fn order(decided: Decided, command: u8, out: &mut [u8]) -> Outcome
 pub fn start(e: End, out: &mut [u8]) -> Outcome
     ensures { λ r. ⌜ (r ≡ requestOf (starting e) (length (now (out .entry))) e) × (now (out .exit) ≡ requestOutput (starting e) e (now (out .entry))) ⌝ }
 {
-    order(end::grant_start(e, out.len()), 1, out)
+    conclude_loopback(link_end::grant_start(e, out.len()), 1, out)
 }
 
 // Stops a remote loopback.
 pub fn stop(e: End, out: &mut [u8]) -> Outcome
     ensures { λ r. ⌜ (r ≡ requestOf (stopping e) (length (now (out .entry))) e) × (now (out .exit) ≡ requestOutput (stopping e) e (now (out .entry))) ⌝ }
 {
-    order(end::grant_stop(e, out.len()), 2, out)
+    conclude_loopback(link_end::grant_stop(e, out.len()), 2, out)
 }
 
 // Asks for the peer's variables. A descriptor is one number, the branch above the leaf's sixteen bits.
@@ -56,13 +61,18 @@ pub fn request_variables(e: End, descriptors: &[u32], out: &mut [u8]) -> Outcome
     ensures { λ r. ⌜ (r ≡ requestOf (requesting (now (descriptors .entry)) e) (length (now (out .entry))) e) × (now (out .exit) ≡ requestOutput (requesting (now (descriptors .entry)) e) e (now (out .entry))) ⌝ }
 {
     let settings = e.settings();
-    let octets = writer::request_octets(descriptors);
-    let permitted = peer::is_active(settings.configuration);
-    let decided = end::grant_frame(octets, permitted, out.len(), e);
+    let octets = frame_writer::request_octets(descriptors);
+    let permitted = link_peer::is_active(settings.configuration);
+    let decided = link_end::grant_frame(octets, permitted, out.len(), e);
     let after = decided.end;
     if decided.answer == 0 {
         let source = settings.source;
-        let written = writer::write_request(source, end::flags(after), descriptors, out);
+        let written = frame_writer::write_request(
+            source,
+            link_end::flags_to_send(after),
+            descriptors,
+            out,
+        );
         return send(after, written);
     }
     refuse(after, decided.answer)
@@ -74,14 +84,14 @@ pub fn notify(e: End, events: &[u64], out: &mut [u8]) -> Outcome
 {
     let settings = e.settings();
     let own = e.own();
-    let octets = writer::notification_octets(own.number, events);
-    let decided = end::grant_number(octets, out.len(), e);
+    let octets = frame_writer::notification_octets(own.number, events);
+    let decided = link_end::grant_number(octets, out.len(), e);
     let after = decided.end;
     if decided.answer == 0 {
         let source = settings.source;
-        let written = writer::write_notification(
+        let written = frame_writer::write_notification(
             source,
-            end::flags(after),
+            link_end::flags_to_send(after),
             own.number,
             events,
             out,
@@ -96,12 +106,18 @@ pub fn send_organization(e: End, oui: u32, octets: &[u8], out: &mut [u8]) -> Out
     ensures { λ r. ⌜ (r ≡ requestOf (telling oui (now (octets .entry)) e) (length (now (out .entry))) e) × (now (out .exit) ≡ requestOutput (telling oui (now (octets .entry)) e) e (now (out .entry))) ⌝ }
 {
     let settings = e.settings();
-    let size = writer::organization_octets(oui, octets);
-    let decided = end::grant_frame(size, true, out.len(), e);
+    let size = frame_writer::organization_octets(oui, octets);
+    let decided = link_end::grant_frame(size, true, out.len(), e);
     let after = decided.end;
     if decided.answer == 0 {
         let source = settings.source;
-        let written = writer::write_organization(source, end::flags(after), oui, octets, out);
+        let written = frame_writer::write_organization(
+            source,
+            link_end::flags_to_send(after),
+            oui,
+            octets,
+            out,
+        );
         return send(after, written);
     }
     refuse(after, decided.answer)

@@ -1,14 +1,14 @@
 // The lister: frames as lines of hexadecimal text on standard input, their listing on standard output.
 //
-// The program only moves octets: what it lists is the crate listing's. The input is read in pieces of at most 65,536
+// The program only moves octets: what it lists is `text_listing`'s. The input is read in pieces of at most 65,536
 // octets, and rows wait in an output of as many. Whatever waits is written before anything else is read or listed.
 ghost use Prim.Native.Nat.{_≤_};
 ghost use lib.ListN.{length};
 use libc::STDIN_FILENO;
 use libc::STDOUT_FILENO;
-use listing::Last;
-use listing::Place;
-use listing::Progress;
+use text_listing::Finished;
+use text_listing::Place;
+use text_listing::Progress;
 
 // Reads a piece, or says why it cannot.
 fn read(input: &mut [u8]) -> isize {
@@ -32,12 +32,12 @@ fn write(out: &[u8], waiting: usize) -> bool
 
 // The input's end: the row of a last line without newline.
 fn end(progress: Progress, frame: &mut [u8], out: &mut [u8]) {
-    let last = listing::finish(progress, frame, out);
+    let last = text_listing::finish(progress, frame, out);
     match last {
-        Last::Written(waiting) => {
+        Finished::Written(waiting) => {
             write(out, waiting);
         }
-        Last::Refused(_) => {}
+        Finished::Refused(_) => {}
     }
 }
 
@@ -47,10 +47,10 @@ fn main() {
     let mut frame = [0u8; 1514];
     let mut input = io::large_buffer();
     let mut output = io::large_buffer();
-    let mut progress = listing::start();
+    let mut progress = text_listing::start();
     let mut size: usize = 0;
     let mut taken: usize = 0;
-    let mut waiting = listing::put_header(&mut output);
+    let mut waiting = text_listing::put_header(&mut output);
     let mut turns = u64::MAX;
     while turns > 0 {
         turns -= 1;
@@ -76,7 +76,7 @@ fn main() {
             taken,
             waiting,
         };
-        let listed = listing::feed(place, &mut frame, &input[..size], &mut output);
+        let listed = text_listing::feed(place, &mut frame, &input[..size], &mut output);
         progress = listed.progress;
         taken = listed.taken;
         waiting = listed.waiting;

@@ -7,19 +7,19 @@ use mathlib.Core.Bool.{false}
 use lib.Dec.{eqb}
 use lib.ListN.{length, set}
 use lib.Seq.{sets}
-use Rattle.writer.proofs.Stores.{sets-append}
-use Rattle.end.specs.declared.End.{End}
-use Rattle.end.specs.declared.FreshEnd.{FreshEnd}
-use Rattle.end.specs.declared.FreshEnd.the-variants.{Refused, Is}
-use Rattle.end.specs.declared.Shown.the-variants.{Nothing}
+use Rattle.octets.proofs.Stores.{sets-append}
+use Rattle.link_end.specs.declared.End.{End}
+use Rattle.link_end.specs.declared.MaybeEnd.{MaybeEnd}
+use Rattle.link_end.specs.declared.MaybeEnd.the-variants.{Refused, Is}
+use Rattle.link_end.specs.declared.News.the-variants.{Nothing}
 use Rattle.link.specs.declared.Outcome.{Outcome}
 use Rattle.link.specs.Outcomes.{outcome}
-use Rattle.packing.specs.Octets.{packedIn}
-use Rattle.concluding.specs.Concluding.{steppedNumber, steppedState}
-use Rattle.showing.specs.Showing.{Showing}
-use Rattle.oam.specs.Machine.{Stepping, Freshly, heardShown, Receiving}
+use Rattle.oam_packing.specs.Octets.{packedIn}
+use Rattle.oam_outcomes.specs.Stepped.{steppedNumber, steppedState}
+use Rattle.oam_showing.specs.Showing.{Showing}
+use Rattle.oam.specs.Machine.{Stepping, Freshly, newsShown, Receiving}
 
-module _ {call : End → Outcome} {output : End → List ℕ → List ℕ} (found : FreshEnd) (state out : List ℕ) where
+module _ {call : End → Outcome} {output : End → List ℕ → List ℕ} (found : MaybeEnd) (state out : List ℕ) where
   pub refused : {n : ℕ} → found ≡ Refused n → Stepping call output found state out n state out
   refused h = rw h (record { answers = refl; keeps = refl; writes = refl })
 
@@ -44,13 +44,13 @@ module _ {call : End → Outcome} {output : End → List ℕ → List ℕ} (foun
 
   pub heard : {e : End} {o : Outcome} {answer : ℕ} {header header′ state′ out′ : List ℕ} {shown : ℕ} → found ≡ Is e
       → (o ≡ call e) × (out′ ≡ output e out)
-      → Showing (heardShown (o .shown)) header shown header′
+      → Showing (newsShown (o .shown)) header shown header′
       → (answer ≡ steppedNumber o) × (state′ ≡ steppedState o state)
       → Receiving call output found header state out answer header′ state′ out′
   heard {header = header} h p s q =
       record {
         steps = stepped h p q;
-        hears = rw h (s .stored ∙ ap (λ (x : Outcome). sets header 0 (heardShown (x .shown) .numbers)) (p .0));
+        hears = rw h (s .stored ∙ ap (λ (x : Outcome). sets header 0 (newsShown (x .shown) .numbers)) (p .0));
       }
 
   pub stayed-unheard : {e : End} {n answer : ℕ} {header : List ℕ} → found ≡ Is e → call e ≡ outcome e n 0 Nothing → eqb n 0 ≡ false
@@ -62,10 +62,10 @@ module _ {call : End → Outcome} {output : End → List ℕ → List ℕ} (foun
   unheard h = record { steps = refused h; hears = rw h }
 
 -- a fresh end is made, or none
-pub unmade : (made : FreshEnd) (state : List ℕ) {n : ℕ} → made ≡ Refused n → Freshly made state n state
+pub unmade : (made : MaybeEnd) (state : List ℕ) {n : ℕ} → made ≡ Refused n → Freshly made state n state
 unmade made state h = rw h (record { answers = refl; keeps = refl })
 
-pub fresh-made : (made : FreshEnd) (state : List ℕ) {e : End} {state′ : List ℕ} → made ≡ Is e → state′ ≡ packedIn e state → Freshly made state 0 state′
+pub fresh-made : (made : MaybeEnd) (state : List ℕ) {e : End} {state′ : List ℕ} → made ≡ Is e → state′ ≡ packedIn e state → Freshly made state 0 state′
 fresh-made made state h p = rw h (record { answers = refl; keeps = p })
 
 -- a number stored after 27

@@ -1,5 +1,4 @@
 -- What the promises of oam cite.
-pub mod Outcomes
 pub mod Lending
 pub mod Writing
 pub mod Logging

@@ -1,5 +1,5 @@
 -- What the entries of the link machine promise. An end is kept in octets that the caller lends: an entry unpacks it, takes the
--- call, and stores the end after it. The calls are those of the theorems' machine (`outcomeBy`, `outputBy` of `reach`).
+-- call, and stores the end after it. The calls are those of the theorems' machine (`outcomeBy`, `outputBy` of `theorems_reach`).
 use Prim.Native.Nat.{ℕ}
 use mathlib.Core.Path.{_≡_}
 use mathlib.Core.List.{List, [], _∷_, _++_}
@@ -7,45 +7,45 @@ use mathlib.Core.Bool.{cond, true, false}
 use lib.Dec.{ltb, leb, eqb}
 use lib.ListN.{length}
 use lib.Seq.{sets}
-use Rattle.discovery.specs.Standing.{placeOf}
-use Rattle.peer.specs.declared.Settings.{Settings}
-use Rattle.end.specs.declared.End.{End}
-use Rattle.end.specs.declared.FreshEnd.{FreshEnd}
-use Rattle.end.specs.declared.FreshEnd.the-variants.{Refused, Is}
-use Rattle.end.specs.declared.Report.{Report}
-use Rattle.end.specs.declared.Report.the-variants.{LinkUp, LinkDown, DyingGasp, CriticalEvent}
-use Rattle.end.specs.declared.Shown.{Shown as Heard}
-use Rattle.end.specs.declared.Shown.the-variants.{Nothing, Frame, Events}
+use Rattle.link_discovery.specs.Standing.{standingNumber}
+use Rattle.link_peer.specs.declared.Settings.{Settings}
+use Rattle.link_end.specs.declared.End.{End}
+use Rattle.link_end.specs.declared.MaybeEnd.{MaybeEnd}
+use Rattle.link_end.specs.declared.MaybeEnd.the-variants.{Refused, Is}
+use Rattle.link_end.specs.declared.Report.{Report}
+use Rattle.link_end.specs.declared.Report.the-variants.{LinkUp, LinkDown, DyingGasp, CriticalEvent}
+use Rattle.link_end.specs.declared.News.{News}
+use Rattle.link_end.specs.declared.News.the-variants.{Nothing, Frame, Events}
 use Rattle.link.specs.declared.Outcome.{Outcome}
 use Rattle.link.specs.Outcomes.{outcome}
-use Rattle.reach.specs.Machine.{report, receive, outcomeBy, outputBy}
-use Rattle.concluding.specs.Concluding.{steppedNumber, steppedState}
-use Rattle.end.specs.State.{freshOf, discoveryOf}
-use Rattle.packing.specs.Numbers.{numbersOf}
-use Rattle.packing.specs.Octets.{stateLength, packedIn}
-use Rattle.showing.specs.Showing.{Shown, shows, roomy}
-use Rattle.showing.specs.Reading.{headerShown}
+use Rattle.theorems_reach.specs.Machine.{report, receive, outcomeBy, outputBy}
+use Rattle.oam_outcomes.specs.Stepped.{steppedNumber, steppedState}
+use Rattle.link_end.specs.Parts.{freshOf, discoveryOf}
+use Rattle.oam_packing.specs.Numbers.{numbersOf}
+use Rattle.oam_packing.specs.Octets.{stateLength, packedIn}
+use Rattle.oam_showing.specs.Showing.{Shown, shows, roomy}
+use Rattle.oam_showing.specs.Reading.{headerShown}
 
 -- ---- what a call comes to
 
 -- a call where there may be no end: then the number of its refusal alone, and everything stays as it was
-abbrev pub answered : (End → Outcome) → FreshEnd → ℕ
-answered call (Refused n) = n
-answered call (Is e) = steppedNumber (call e)
+abbrev pub answerOf : (End → Outcome) → MaybeEnd → ℕ
+answerOf call (Refused n) = n
+answerOf call (Is e) = steppedNumber (call e)
 
-abbrev pub kept : (End → Outcome) → FreshEnd → List ℕ → List ℕ
-kept call (Refused n) state = state
-kept call (Is e) state = steppedState (call e) state
+abbrev pub stateAfter : (End → Outcome) → MaybeEnd → List ℕ → List ℕ
+stateAfter call (Refused n) state = state
+stateAfter call (Is e) state = steppedState (call e) state
 
-abbrev pub wrote : (End → List ℕ → List ℕ) → FreshEnd → List ℕ → List ℕ
-wrote output (Refused n) out = out
-wrote output (Is e) out = output e out
+abbrev pub outputAfter : (End → List ℕ → List ℕ) → MaybeEnd → List ℕ → List ℕ
+outputAfter output (Refused n) out = out
+outputAfter output (Is e) out = output e out
 
 -- an entry that takes a call, by the end that it finds: its answer, the state and the output after it
-pub record Stepping (call : End → Outcome) (output : End → List ℕ → List ℕ) (found : FreshEnd) (state out : List ℕ) (answer : ℕ) (state′ out′ : List ℕ) : Type 0 where
-  pub answers : answer ≡ answered call found
-  pub keeps : state′ ≡ kept call found state
-  pub writes : out′ ≡ wrote output found out
+pub record Stepping (call : End → Outcome) (output : End → List ℕ → List ℕ) (found : MaybeEnd) (state out : List ℕ) (answer : ℕ) (state′ out′ : List ℕ) : Type 0 where
+  pub answers : answer ≡ answerOf call found
+  pub keeps : state′ ≡ stateAfter call found state
+  pub writes : out′ ≡ outputAfter output found out
 
 -- ---- a fresh end
 
@@ -54,19 +54,19 @@ settingsOf configuration size oui vendor source required =
     record { configuration = configuration; size = size; oui = oui; vendor = vendor; source = source; required = required }
 
 -- "settings or request values out of range" is 10, and so is a state of another length
-unfoldable pub freshFor : Settings → List ℕ → FreshEnd
+unfoldable pub freshFor : Settings → List ℕ → MaybeEnd
 freshFor s state = cond (eqb (length state) stateLength) (freshOf s) (Refused 10)
 
-abbrev pub freshAnswer : FreshEnd → ℕ
+abbrev pub freshAnswer : MaybeEnd → ℕ
 freshAnswer (Refused n) = n
 freshAnswer (Is e) = 0
 
-abbrev pub freshState : FreshEnd → List ℕ → List ℕ
+abbrev pub freshState : MaybeEnd → List ℕ → List ℕ
 freshState (Refused n) state = state
 freshState (Is e) state = packedIn e state
 
 -- the entry that makes a fresh end
-pub record Freshly (made : FreshEnd) (state : List ℕ) (answer : ℕ) (state′ : List ℕ) : Type 0 where
+pub record Freshly (made : MaybeEnd) (state : List ℕ) (answer : ℕ) (state′ : List ℕ) : Type 0 where
   pub answers : answer ≡ freshAnswer made
   pub keeps : state′ ≡ freshState made state
 
@@ -91,10 +91,10 @@ reportedOutput number e out = cond (leb number 5) (outputBy (report (reportFrom 
 -- ---- received frames
 
 -- of an accepted frame: its header, and the event number where the events are new, else 0
-abbrev pub heardShown : Heard → Shown
-heardShown Nothing = shows 0 []
-heardShown (Frame h) = headerShown h 0
-heardShown (Events h n) = headerShown h n
+abbrev pub newsShown : News → Shown
+newsShown Nothing = shows 0 []
+newsShown (Frame h) = headerShown h 0
+newsShown (Events h n) = headerShown h n
 
 -- a header too short for four numbers is 9: the end stays, and so its State octet
 unfoldable pub receivedBy : List ℕ → (room octets : ℕ) → End → Outcome
@@ -103,12 +103,12 @@ receivedBy frame room octets e = cond (ltb room 4) (outcome e 9 0 Nothing) (outc
 unfoldable pub receivedOutput : List ℕ → (room : ℕ) → End → List ℕ → List ℕ
 receivedOutput frame room e out = cond (ltb room 4) out (outputBy (receive frame) e out)
 
-abbrev pub heardIn : (End → Outcome) → FreshEnd → List ℕ → List ℕ
+abbrev pub heardIn : (End → Outcome) → MaybeEnd → List ℕ → List ℕ
 heardIn call (Refused n) header = header
-heardIn call (Is e) header = sets header 0 (heardShown (call e .shown) .numbers)
+heardIn call (Is e) header = sets header 0 (newsShown (call e .shown) .numbers)
 
 -- the entry that receives: a call, and the header after it
-pub record Receiving (call : End → Outcome) (output : End → List ℕ → List ℕ) (found : FreshEnd) (header state out : List ℕ) (answer : ℕ) (header′ state′ out′ : List ℕ) : Type 0 where
+pub record Receiving (call : End → Outcome) (output : End → List ℕ → List ℕ) (found : MaybeEnd) (header state out : List ℕ) (answer : ℕ) (header′ state′ out′ : List ℕ) : Type 0 where
   pub steps : Stepping call output found state out answer state′ out′
   pub hears : header′ ≡ heardIn call found header
 
@@ -116,8 +116,8 @@ pub record Receiving (call : End → Outcome) (output : End → List ℕ → Lis
 
 -- its 27 numbers, and where discovery stands
 unfoldable pub endNumbers : End → Shown
-endNumbers e = shows 0 (numbersOf e ++ (placeOf (discoveryOf e) ∷ []))
+endNumbers e = shows 0 (numbersOf e ++ (standingNumber (discoveryOf e) ∷ []))
 
-abbrev pub endShown : FreshEnd → ℕ → Shown
+abbrev pub endShown : MaybeEnd → ℕ → Shown
 endShown (Refused n) room = shows n []
 endShown (Is e) room = roomy 28 9 room (endNumbers e)

@@ -2,24 +2,19 @@
 //
 // An entry takes numbers and lent slices and trusts none of them. A slice is two arguments to its caller, where it begins and
 // how many elements it has. An entry that writes answers an outcome: one number, the paper's answer in its low 8 bits, 0
-// where it is accepted, and the length that was written above them, of which nothing is cut off (proofs/Lengths.antt of `archive`). A
-// refusal leaves every lent slice as it was. What an entry reads is shown as numbers in lent slices (the crate `showing`).
+// where it is accepted, and the length that was written above them, of which nothing is cut off (proofs/Lengths.antt of
+// `theorems_archive`). A refusal leaves every lent slice as it was. What an entry reads is shown as numbers in lent slices (the
+// crate `oam_showing`).
 //
-// An end of the link is kept in octets that the caller lends to each call (the crate `packing`). The outcome of a call has
+// An end of the link is kept in octets that the caller lends to each call (the crate `oam_packing`). The outcome of a call has
 // the State octet after it in bits 40 to 47, and what is shown in bits 48 and 49.
-mod asking;
 mod lending;
 mod logging;
 mod machine;
-mod outcomes;
 mod reading;
+mod requesting;
 mod writing;
 
-pub use asking::oam_notify;
-pub use asking::oam_organization;
-pub use asking::oam_request;
-pub use asking::oam_start;
-pub use asking::oam_stop;
 pub use logging::oam_log_read;
 pub use logging::oam_log_write;
 pub use machine::oam_fresh;
@@ -29,6 +24,11 @@ pub use machine::oam_show;
 pub use machine::oam_tick;
 pub use reading::oam_read;
 pub use reading::oam_read_all;
+pub use requesting::oam_notify;
+pub use requesting::oam_organization;
+pub use requesting::oam_request;
+pub use requesting::oam_start;
+pub use requesting::oam_stop;
 pub use writing::oam_write_information;
 pub use writing::oam_write_loopback;
 pub use writing::oam_write_notification;

@@ -3,19 +3,19 @@
 ghost use mathlib.Core.Path.{_≡_};
 ghost use Prim.Native.Nat.{_≤_};
 ghost use lib.ListN.{length};
-ghost use Rattle.reach.specs.Machine.{tick as ticking, outcomeBy, outputBy};
-ghost use Rattle.packing.specs.Octets.{unpacked};
-ghost use Rattle.showing.specs.Showing.{Showing};
-ghost use Rattle.oam.specs.Machine.{Stepping, settingsOf, freshFor, Freshly, reportFrom, reportedBy, reportedOutput, heardShown, receivedBy, receivedOutput, Receiving, endNumbers, endShown};
-use concluding::conclude;
-use concluding::refuse;
-use end::End;
-use end::FreshEnd;
-use end::Report;
-use end::Shown;
-use peer::Settings;
-use showing::show;
-use showing::show_header;
+ghost use Rattle.theorems_reach.specs.Machine.{tick as ticking, outcomeBy, outputBy};
+ghost use Rattle.oam_packing.specs.Octets.{unpacked};
+ghost use Rattle.oam_showing.specs.Showing.{Showing};
+ghost use Rattle.oam.specs.Machine.{Stepping, settingsOf, freshFor, Freshly, reportFrom, reportedBy, reportedOutput, newsShown, receivedBy, receivedOutput, Receiving, endNumbers, endShown};
+use link_end::End;
+use link_end::MaybeEnd;
+use link_end::News;
+use link_end::Report;
+use link_peer::Settings;
+use oam_outcomes::refused_number;
+use oam_outcomes::store_outcome;
+use oam_showing::show;
+use oam_showing::show_header;
 
 // Makes a fresh end by its settings: 0, or 10 for settings out of range and for a state of another length.
 #[no_mangle]
@@ -30,7 +30,7 @@ pub extern "C" fn oam_fresh(
 ) -> u64
     ensures { λ r. ⌜ Freshly (freshFor (settingsOf configuration size oui vendor source required) (now (state .entry))) (now (state .entry)) r (now (state .exit)) ⌝ }
 {
-    if state.len() != packing::STATE_LENGTH {
+    if state.len() != oam_packing::STATE_LENGTH {
         return 10;
     }
     let settings = Settings {
@@ -41,10 +41,10 @@ pub extern "C" fn oam_fresh(
         source: source,
         required: required,
     };
-    match end::fresh(settings) {
-        FreshEnd::Refused(answer) => answer as u64,
-        FreshEnd::Is(e) => {
-            packing::pack(e, state);
+    match link_end::fresh(settings) {
+        MaybeEnd::Refused(answer) => answer as u64,
+        MaybeEnd::Is(e) => {
+            oam_packing::pack(e, state);
             0
         }
     }
@@ -55,9 +55,9 @@ pub extern "C" fn oam_fresh(
 pub extern "C" fn oam_tick(state: &mut [u8], out: &mut [u8]) -> u64
     ensures { λ r. ⌜ Stepping (outcomeBy ticking (length (now (out .entry)))) (outputBy ticking) (unpacked (now (state .entry))) (now (state .entry)) (now (out .entry)) r (now (state .exit)) (now (out .exit)) ⌝ }
 {
-    match packing::unpack(state) {
-        FreshEnd::Refused(answer) => answer as u64,
-        FreshEnd::Is(e) => conclude(link::tick(e, out), state),
+    match oam_packing::unpack(state) {
+        MaybeEnd::Refused(answer) => answer as u64,
+        MaybeEnd::Is(e) => store_outcome(link::tick(e, out), state),
     }
 }
 
@@ -80,25 +80,25 @@ fn report_from(number: u8) -> Report
 pub extern "C" fn oam_report(report: u8, state: &mut [u8], out: &mut [u8]) -> u64
     ensures { λ r. ⌜ Stepping (reportedBy report (length (now (out .entry)))) (reportedOutput report) (unpacked (now (state .entry))) (now (state .entry)) (now (out .entry)) r (now (state .exit)) (now (out .exit)) ⌝ }
 {
-    match packing::unpack(state) {
-        FreshEnd::Refused(answer) => answer as u64,
-        FreshEnd::Is(e) => {
+    match oam_packing::unpack(state) {
+        MaybeEnd::Refused(answer) => answer as u64,
+        MaybeEnd::Is(e) => {
             if 5 < report {
-                return refuse(10, e);
+                return refused_number(10, e);
             }
-            conclude(link::take_report(e, report_from(report), out), state)
+            store_outcome(link::take_report(e, report_from(report), out), state)
         }
     }
 }
 
 // What is heard of an accepted frame.
-fn show_heard(lent: &mut [u64], shown: Shown) -> u64
-    ensures { λ r. ⌜ Showing (heardShown shown) (now (lent .entry)) r (now (lent .exit)) ⌝ }
+fn show_news(lent: &mut [u64], shown: News) -> u64
+    ensures { λ r. ⌜ Showing (newsShown shown) (now (lent .entry)) r (now (lent .exit)) ⌝ }
 {
     match shown {
-        Shown::Nothing => 0,
-        Shown::Frame(header) => show_header(lent, header, 0),
-        Shown::Events(header, number) => show_header(lent, header, number as u64),
+        News::Nothing => 0,
+        News::Frame(header) => show_header(lent, header, 0),
+        News::Events(header, number) => show_header(lent, header, number as u64),
     }
 }
 
@@ -113,16 +113,16 @@ pub extern "C" fn oam_receive(
 ) -> u64
     ensures { λ r. ⌜ Receiving (receivedBy (now (frame .entry)) (length (now (header .entry))) (length (now (out .entry)))) (receivedOutput (now (frame .entry)) (length (now (header .entry)))) (unpacked (now (state .entry))) (now (header .entry)) (now (state .entry)) (now (out .entry)) r (now (header .exit)) (now (state .exit)) (now (out .exit)) ⌝ }
 {
-    match packing::unpack(state) {
-        FreshEnd::Refused(answer) => answer as u64,
-        FreshEnd::Is(e) => {
+    match oam_packing::unpack(state) {
+        MaybeEnd::Refused(answer) => answer as u64,
+        MaybeEnd::Is(e) => {
             if header.len() < 4 {
-                return refuse(9, e);
+                return refused_number(9, e);
             }
             let o = link::receive(e, frame, out);
             let shown = o.shown;
-            show_heard(header, shown);
-            conclude(o, state)
+            show_news(header, shown);
+            store_outcome(o, state)
         }
     }
 }
@@ -132,9 +132,9 @@ fn show_end(lent: &mut [u64], e: End) -> u64
     requires { ⌜ 28 ≤ length (now lent) ⌝ }
     ensures { λ r. ⌜ Showing (endNumbers e) (now (lent .entry)) r (now (lent .exit)) ⌝ }
 {
-    let numbers = packing::numbers_of(e);
+    let numbers = oam_numbers::numbers_of(e);
     let answer = show(lent, 0, &numbers);
-    lent[27] = end::discovery(e).number() as u64;
+    lent[27] = link_end::discovery_of(e).number() as u64;
     answer
 }
 
@@ -145,9 +145,9 @@ fn show_end(lent: &mut [u64], e: End) -> u64
 pub extern "C" fn oam_show(state: &[u8], numbers: &mut [u64]) -> u64
     ensures { λ r. ⌜ Showing (endShown (unpacked (now (state .entry))) (length (now (numbers .entry)))) (now (numbers .entry)) r (now (numbers .exit)) ⌝ }
 {
-    match packing::unpack(state) {
-        FreshEnd::Refused(answer) => answer as u64,
-        FreshEnd::Is(e) => {
+    match oam_packing::unpack(state) {
+        MaybeEnd::Refused(answer) => answer as u64,
+        MaybeEnd::Is(e) => {
             if numbers.len() < 28 {
                 return 9;
             }

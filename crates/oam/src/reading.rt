@@ -1,17 +1,17 @@
 // The entries that read a frame. What they show is stored as numbers in slices that the caller lends.
 ghost use lib.ListN.{length};
-ghost use Rattle.showing.specs.Showing.{Showing};
-ghost use Rattle.showing.specs.Reading.{frameShown, allShown, ShowingAll};
+ghost use Rattle.oam_showing.specs.Showing.{Showing};
+ghost use Rattle.oam_showing.specs.Reading.{frameShown, allShown, ShowingAll};
 
-// Reads a frame (`showing::read`).
+// Reads a frame (`oam_showing::read`).
 #[no_mangle]
 pub extern "C" fn oam_read(frame: &[u8], header: &mut [u64]) -> u64
     ensures { λ r. ⌜ Showing (frameShown (now (frame .entry)) (length (now (header .entry)))) (now (header .entry)) r (now (header .exit)) ⌝ }
 {
-    showing::read(frame, header)
+    oam_showing::read(frame, header)
 }
 
-// Reads a frame with its parts (`showing::read_all`).
+// Reads a frame with its parts (`oam_showing::read_all`).
 #[no_mangle]
 pub extern "C" fn oam_read_all(
     frame: &[u8],
@@ -21,5 +21,5 @@ pub extern "C" fn oam_read_all(
 ) -> u64
     ensures { λ r. ⌜ ShowingAll (allShown (now (frame .entry)) first (length (now (header .entry))) (length (now (rows .entry)))) (now (header .entry)) (now (rows .entry)) r (now (header .exit)) (now (rows .exit)) ⌝ }
 {
-    showing::read_all(frame, first, header, rows)
+    oam_showing::read_all(frame, first, header, rows)
 }

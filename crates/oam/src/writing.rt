@@ -1,13 +1,13 @@
 // The entries that write frames.
 ghost use mathlib.Core.Bool.{true, _&&_};
 ghost use Rattle.frame.specs.Frame.{information, notification, request, loopback, organization};
-ghost use Rattle.writer.specs.Writing.{messageOf, eventsOf, partsFrom};
+ghost use Rattle.frame_writer.specs.Writing.{messageOf, eventsOf, partsFrom};
 ghost use Rattle.oam.specs.Lending.{lends, heldFrom};
-ghost use Rattle.oam.specs.Writing.{Outcome};
-use crate::lending::held_of;
-use crate::lending::is_lent;
-use crate::outcomes::outcome;
-use body::Found;
+ghost use Rattle.oam.specs.Writing.{WritingFrame};
+use crate::lending::held_from;
+use crate::lending::lends;
+use frame_body::Found;
+use oam_outcomes::written_number;
 
 // Writes an Information frame. A TLV is lent as its seven fields in order, or as no number where there is none; numbers
 // that are neither are 10.
@@ -19,19 +19,19 @@ pub extern "C" fn oam_write_information(
     remote: &[u64],
     out: &mut [u8],
 ) -> u64
-    ensures { λ r. ⌜ Outcome (lends (now (local .entry)) && lends (now (remote .entry))) (messageOf source flags (information (partsFrom (heldFrom (now (local .entry))) (heldFrom (now (remote .entry)))))) (now (out .entry)) r (now (out .exit)) ⌝ }
+    ensures { λ r. ⌜ WritingFrame (lends (now (local .entry)) && lends (now (remote .entry))) (messageOf source flags (information (partsFrom (heldFrom (now (local .entry))) (heldFrom (now (remote .entry)))))) (now (out .entry)) r (now (out .exit)) ⌝ }
 {
-    if !is_lent(local) {
+    if !lends(local) {
         return 10;
     }
-    if !is_lent(remote) {
+    if !lends(remote) {
         return 10;
     }
     let found = Found {
-        local: held_of(local),
-        remote: held_of(remote),
+        local: held_from(local),
+        remote: held_from(remote),
     };
-    outcome(writer::write_information(source, flags, found, out))
+    written_number(frame_writer::write_information(source, flags, found, out))
 }
 
 // Writes an Event Notification frame with its number and 1 to 4 events, each lent as seven numbers: its type and its six
@@ -44,9 +44,9 @@ pub extern "C" fn oam_write_notification(
     events: &[u64],
     out: &mut [u8],
 ) -> u64
-    ensures { λ r. ⌜ Outcome true (messageOf source flags (notification number (eventsOf (now (events .entry))))) (now (out .entry)) r (now (out .exit)) ⌝ }
+    ensures { λ r. ⌜ WritingFrame true (messageOf source flags (notification number (eventsOf (now (events .entry))))) (now (out .entry)) r (now (out .exit)) ⌝ }
 {
-    outcome(writer::write_notification(source, flags, number, events, out))
+    written_number(frame_writer::write_notification(source, flags, number, events, out))
 }
 
 // Writes a Variable Request frame. A descriptor is one number, the branch above the leaf's sixteen bits.
@@ -57,17 +57,17 @@ pub extern "C" fn oam_write_request(
     descriptors: &[u32],
     out: &mut [u8],
 ) -> u64
-    ensures { λ r. ⌜ Outcome true (messageOf source flags (request (now (descriptors .entry)))) (now (out .entry)) r (now (out .exit)) ⌝ }
+    ensures { λ r. ⌜ WritingFrame true (messageOf source flags (request (now (descriptors .entry)))) (now (out .entry)) r (now (out .exit)) ⌝ }
 {
-    outcome(writer::write_request(source, flags, descriptors, out))
+    written_number(frame_writer::write_request(source, flags, descriptors, out))
 }
 
 // Writes a Loopback Control frame.
 #[no_mangle]
 pub extern "C" fn oam_write_loopback(source: u64, flags: u16, command: u8, out: &mut [u8]) -> u64
-    ensures { λ r. ⌜ Outcome true (messageOf source flags (loopback command)) (now (out .entry)) r (now (out .exit)) ⌝ }
+    ensures { λ r. ⌜ WritingFrame true (messageOf source flags (loopback command)) (now (out .entry)) r (now (out .exit)) ⌝ }
 {
-    outcome(writer::write_loopback(source, flags, command, out))
+    written_number(frame_writer::write_loopback(source, flags, command, out))
 }
 
 // Writes an organization specific frame: the OUI and the organization's data.
@@ -79,7 +79,7 @@ pub extern "C" fn oam_write_organization(
     octets: &[u8],
     out: &mut [u8],
 ) -> u64
-    ensures { λ r. ⌜ Outcome true (messageOf source flags (organization oui (now (octets .entry)))) (now (out .entry)) r (now (out .exit)) ⌝ }
+    ensures { λ r. ⌜ WritingFrame true (messageOf source flags (organization oui (now (octets .entry)))) (now (out .entry)) r (now (out .exit)) ⌝ }
 {
-    outcome(writer::write_organization(source, flags, oui, octets, out))
+    written_number(frame_writer::write_organization(source, flags, oui, octets, out))
 }

@@ -1,13 +1,11 @@
--- The digits of a number: how they go on, how many there are, and what they are.
--- Assumes nothing.
+-- The digits of a number: how they go on, and how many there are.
 use Prim.Native.Nat.{ℕ, zero, suc, _+_, _/_, _%_, _^_, _≤_, _<_}
 use mathlib.Core.Path.{_≡_, refl, ap, _∙_}
-use mathlib.Core.List.{List, [], _∷_, _++_}
+use mathlib.Core.List.{[], _∷_, _++_}
 use native.Mathlib.Nat.{pow-suc, mod-eq-of-lt, not-suc-le-zero}
 use native.Mathlib.Omega.{arith}
 use borrow.Author.Tests.{lt-ltb, le-ltb}
-use lib.ListN.{length, getD, length-append, List·getD-append}
-use lib.Seq.{getD-at}
+use lib.ListN.{length, length-append}
 use Rattle.text.specs.Decimal.{decimalIn, decimal, field}
 use Rattle.text.proofs.Bounds.{by-bound}
 
@@ -27,11 +25,6 @@ module _ (places n : ℕ) where
 pub no-digit : (n : ℕ) → decimalIn 0 n ≡ []
 unfolding decimalIn
 no-digit n = refl
-
--- there is a digit
-pub some-digit : (places n : ℕ) → 0 < length (decimalIn (suc places) n)
-some-digit places n =
-    by-bound n 10 (λ h. rw (one-digit places n h) (omega arith)) (λ h. omega (arith, one-more places n h))
 
 -- no more digits than places
 pub within-places : (places n : ℕ) → length (decimalIn places n) ≤ places
@@ -66,27 +59,3 @@ length-field n after = length-append (decimal n) (after ∷ [])
 
 pub field-at-most : (k n after : ℕ) → n < 10 ^ suc k → length (field n after) ≤ k + 2
 field-at-most k n after h = omega (arith, length-field n after, at-most 20 k n h)
-
--- an octet that is a decimal digit
-abbrev pub Digit : ℕ → Type 0
-Digit x = (48 ≤ x) × (x ≤ 57)
-
--- one digit after others that are digits
-digit-after : (before : List ℕ) (x i : ℕ) → Digit x → (i < length before → Digit (getD before i 0)) → i < length before + 1 → Digit (getD (before ++ (x ∷ [])) i 0)
-digit-after before x i digit digits h =
-    by-bound i (length before)
-    (λ b. rw (List·getD-append before (x ∷ []) 0 i b) (digits b))
-    (λ b. rw (getD-at before x [] 0 i (omega arith)) digit)
-
--- each digit is one of 0 to 9
-pub digit-at : (places n i : ℕ) → i < length (decimalIn places n) → Digit (getD (decimalIn places n) i 0)
-digit-at zero n i h = absurd (not-suc-le-zero (rw (no-digit n) at h))
-digit-at (suc places) n i h =
-    let digits : i < length (decimalIn places (n / 10)) → Digit (getD (decimalIn places (n / 10)) i 0) = digit-at places (n / 10) i in
-    by-bound n 10
-    (λ s.
-    let z : i ≡ 0 = omega (arith, ap length (one-digit places n s)) in
-    rw (z, one-digit places n s) (omega arith))
-    (λ s.
-    rw (more-digits places n s)
-    (digit-after (decimalIn places (n / 10)) (48 + n % 10) i (omega arith) digits (omega (arith, one-more places n s))))

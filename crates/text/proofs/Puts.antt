@@ -1,6 +1,5 @@
 -- The two ways in which a writer of text keeps its promise, what the promise comes to where the text fits, and two texts one
 -- after the other.
--- Assumes nothing.
 use Prim.Native.Nat.{ℕ, _+_, _≤_, _<_}
 use mathlib.Core.Path.{_≡_, ap, _∙_}
 use mathlib.Core.List.{List, _++_}
@@ -11,7 +10,7 @@ use lib.Seq.{sets, length-sets}
 use native.Mathlib.Nat.{add-assoc}
 use Rattle.text.specs.Put.{Put, Stored}
 use Rattle.text.proofs.Bounds.{by-bound}
-use Rattle.text.proofs.Stores.{sets-append}
+use Rattle.octets.proofs.Stores.{sets-append}
 
 module _ (text entry : List ℕ) (at : ℕ) where
   -- it fits

@@ -1,5 +1,5 @@
 -- An input that is taken a character at a time, by calls that are each lent a piece of it and room for what is said. The
--- definitions are for any steps, whatever their state: those over lines, over a capture file, over recorded lines.
+-- definitions are for any steps, whatever their state; the listing's, over lines, are `lister` of `text_listing`.
 use Prim.Native.Nat.{ℕ, _+_, _-_, _≤_, _<_}
 use mathlib.Core.List.{List, [], _∷_, _++_}
 use mathlib.Core.Bool.{cond}
@@ -15,16 +15,16 @@ pub record Steps (S : Type 0) : Type 0 where
   pub last : S → List ℕ
 
 -- what a call has come to: the state, the characters taken and the octets said
-pub record Outcome (S : Type 0) : Type 0 where
+pub record Fed (S : Type 0) : Type 0 where
   pub state : S
   pub taken : ℕ
   pub said : List ℕ
 
-abbrev pub takes : {S : Type 0} → Steps S → Outcome S → ℕ → Outcome S
+abbrev pub takes : {S : Type 0} → Steps S → Fed S → ℕ → Fed S
 takes r o c = record { state = r .next (o .state) c; taken = o .taken + 1; said = o .said ++ r .says (o .state) c }
 
 -- The characters in order, with room for so many octets. The call stops before a character that wants more than is left.
-unfoldable pub fedFrom : {S : Type 0} → Steps S → ℕ → Outcome S → List ℕ → Outcome S
+unfoldable pub fedFrom : {S : Type 0} → Steps S → ℕ → Fed S → List ℕ → Fed S
 fedFrom r room o [] = o
 fedFrom r room o (c ∷ rest) =
     cond (ltb (room - length (o .said)) (r .wants (o .state) c)) o (fedFrom r room (takes r o c) rest)

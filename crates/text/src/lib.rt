@@ -10,3 +10,8 @@ pub use decimal::digits;
 pub use decimal::put_decimal;
 pub use room::room_from;
 pub use words::put_words;
+
+// What parts the fields of a line, and what ends it.
+pub const TAB: u8 = 9;
+
+pub const NEWLINE: u8 = 10;

@@ -1,7 +1,7 @@
 // Octets that are text already.
 ghost use Rattle.text.specs.Put.{Put};
 
-// The words, octet by octet.
+// The words, where there is room for all of them.
 pub fn put_words(out: &mut [u8], at: usize, words: &[u8]) -> usize
     ensures { λ r. ⌜ Put (now (words .entry)) (now (out .entry)) at r (now (out .exit)) ⌝ }
 {
@@ -11,10 +11,6 @@ pub fn put_words(out: &mut [u8], at: usize, words: &[u8]) -> usize
     if out.len() - at < words.len() {
         return at;
     }
-    let mut i: usize = 0;
-    while i < words.len() {
-        out[at + i] = words[i];
-        i += 1;
-    }
-    at + i
+    octets::put_octets(out, at, words);
+    at + words.len()
 }

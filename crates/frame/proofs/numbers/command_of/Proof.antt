@@ -8,12 +8,9 @@ returns : tie.Need-returns
 unfolding commandOf
 returns c = rw (lt-ltb _ _ (c .if1 .taken))
 
-shared-slice-read-result : tie.Need-shared-slice-read-result
-shared-slice-read-result c = search needs
-
 returns-2 : tie.Need-returns-2
 unfolding commandOf
 returns-2 c = rw (le-ltb _ _ (c .before .if1 .left))
 
 pub command-of-spec : {M : Type 1} → statement M
-command-of-spec = tie.close (tie.spec returns shared-slice-read-result returns-2)
+command-of-spec = tie.close (tie.spec returns (λ c. search needs) returns-2)

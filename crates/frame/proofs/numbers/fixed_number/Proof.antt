@@ -2,7 +2,7 @@ use mathlib.Core.Path.{_≡_}
 use native.Mathlib.Omega.{arith}
 use denote.Ref.{now}
 use borrow.Author.Tests.{lt-ltb, le-ltb, ne-eqb}
-use Rattle.tlvs.specs.Octets.{num}
+use Rattle.octets.specs.Octets.{num}
 use Rattle.frame.specs.Frame.{fixedNumber}
 use Rattle.frame.proofs.Decoding.{coded}
 use borrow.Author.Needs.{needs}
@@ -13,38 +13,8 @@ returns : tie.Need-returns
 unfolding fixedNumber
 returns c = simp (lt-ltb _ _ (c .if1 .taken))
 
-shared-slice-read-code : tie.Need-shared-slice-read-code
-shared-slice-read-code c = search needs
-
-shared-slice-read-join-two : tie.Need-shared-slice-read-join-two
-shared-slice-read-join-two c = search needs
-
-shared-slice-read-join-two-2 : tie.Need-shared-slice-read-join-two-2
-shared-slice-read-join-two-2 c = search needs
-
-join-two-requires : tie.Need-join-two-requires
-join-two-requires c κs = search needs
-
-cast-result : tie.Need-cast-result
-cast-result c = search needs
-
-shared-slice-read-result : tie.Need-shared-slice-read-result
-shared-slice-read-result c = search needs
-
 cast-result-2 : tie.Need-cast-result-2
 cast-result-2 c = omega (arith, c .shared-slice-known5 .given 18)
-
-shared-slice-read-join-three : tie.Need-shared-slice-read-join-three
-shared-slice-read-join-three c = search needs
-
-shared-slice-read-join-three-2 : tie.Need-shared-slice-read-join-three-2
-shared-slice-read-join-three-2 c = search needs
-
-shared-slice-read-join-three-3 : tie.Need-shared-slice-read-join-three-3
-shared-slice-read-join-three-3 c = search needs
-
-join-three-requires : tie.Need-join-three-requires
-join-three-requires c κs = search needs
 
 returns-2 : tie.Need-returns-2
 unfolding fixedNumber
@@ -67,22 +37,4 @@ unfolding fixedNumber
 returns-5 c = simp (le-ltb _ _ (c .before .before .if1 .left), ne-eqb _ _ (c .match .rest .0 .0 .1), ne-eqb _ _ (c .match .rest .0 .1), ne-eqb _ _ (c .match .rest .1))
 
 pub fixed-number-spec : {M : Type 1} → statement M
-fixed-number-spec =
-    tie.close
-    (tie.spec
-    returns
-    shared-slice-read-code
-    shared-slice-read-join-two
-    shared-slice-read-join-two-2
-    join-two-requires
-    cast-result
-    shared-slice-read-result
-    cast-result-2
-    shared-slice-read-join-three
-    shared-slice-read-join-three-2
-    shared-slice-read-join-three-3
-    join-three-requires
-    returns-2
-    returns-3
-    returns-4
-    returns-5)
+fixed-number-spec = tie.close (tie.spec returns (λ c. search needs) (λ c. search needs) (λ c. search needs) (λ c. search needs) (λ c κs. search needs) (λ c. search needs) (λ c. search needs) cast-result-2 (λ c. search needs) (λ c. search needs) (λ c. search needs) (λ c. search needs) (λ c. search needs) (λ c κs. search needs) returns-2 returns-3 returns-4 returns-5)

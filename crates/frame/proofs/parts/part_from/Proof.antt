@@ -7,18 +7,6 @@ use borrow.Author.Needs.{needs}
 use Rattle.frame.proofs.parts.part_from.Statement.{statement}
 use Rattle.frame.proofs.parts.part_from.Tie as tie
 
-sub-result : tie.Need-sub-result
-sub-result c = search needs
-
-part-result-start : tie.Need-part-result-start
-part-result-start c = search needs
-
-part-result-end : tie.Need-part-result-end
-part-result-end c = search needs
-
-slice-aggregate-result : tie.Need-slice-aggregate-result
-slice-aggregate-result c = search needs
-
 returns : tie.Need-returns
 returns c = let f = c .before .before .args .frame .now in
     let at = c .before .before .args .at in
@@ -30,12 +18,4 @@ returns-2 c = let f = c .before .before .args .frame .now in
     sym (drop-of-length-le f h)
 
 pub part-from-spec : {M : Type 1} → statement M
-part-from-spec =
-    tie.close
-    (tie.spec
-    sub-result
-    part-result-start
-    part-result-end
-    slice-aggregate-result
-    returns
-    returns-2)
+part-from-spec = tie.close (tie.spec (λ c. search needs) (λ c. search needs) (λ c. search needs) (λ c. search needs) returns returns-2)

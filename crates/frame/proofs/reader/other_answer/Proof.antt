@@ -5,39 +5,6 @@ use borrow.Author.Needs.{needs}
 use Rattle.frame.proofs.reader.other_answer.Statement.{statement}
 use Rattle.frame.proofs.reader.other_answer.Tie as tie
 
-events-body-requires : tie.Need-events-body-requires
-events-body-requires c κs = search needs
-
-is-whole-requires : tie.Need-is-whole-requires
-is-whole-requires c κs = search needs
-
-list-answer-requires : tie.Need-list-answer-requires
-list-answer-requires c κs = search needs
-
-body-requires : tie.Need-body-requires
-body-requires c κs = search needs
-
-is-whole-requires-2 : tie.Need-is-whole-requires-2
-is-whole-requires-2 c κs = search needs
-
-list-answer-requires-2 : tie.Need-list-answer-requires-2
-list-answer-requires-2 c κs = search needs
-
-body-requires-2 : tie.Need-body-requires-2
-body-requires-2 c κs = search needs
-
-is-whole-requires-3 : tie.Need-is-whole-requires-3
-is-whole-requires-3 c κs = search needs
-
-list-answer-requires-3 : tie.Need-list-answer-requires-3
-list-answer-requires-3 c κs = search needs
-
-shared-slice-read-command-answer : tie.Need-shared-slice-read-command-answer
-shared-slice-read-command-answer c = search needs
-
-command-answer-requires : tie.Need-command-answer-requires
-command-answer-requires c κs = search needs
-
 returns : tie.Need-returns
 unfolding otherAnswer
 returns c = let e = c .before .before .before .match .keys1 in simp (coded e 1, c .list-answer .ensures, c .before .is-whole .ensures, c .before .before .events-body .ensures)
@@ -69,23 +36,4 @@ returns-6 c = simp (
 )
 
 pub other-answer-spec : {M : Type 1} → statement M
-other-answer-spec =
-    tie.close
-    (tie.spec
-    events-body-requires
-    is-whole-requires
-    list-answer-requires
-    body-requires
-    is-whole-requires-2
-    list-answer-requires-2
-    body-requires-2
-    is-whole-requires-3
-    list-answer-requires-3
-    shared-slice-read-command-answer
-    command-answer-requires
-    returns
-    returns-2
-    returns-3
-    returns-4
-    returns-5
-    returns-6)
+other-answer-spec = tie.close (tie.spec (λ c κs. search needs) (λ c κs. search needs) (λ c κs. search needs) (λ c κs. search needs) (λ c κs. search needs) (λ c κs. search needs) (λ c κs. search needs) (λ c κs. search needs) (λ c κs. search needs) (λ c. search needs) (λ c κs. search needs) returns returns-2 returns-3 returns-4 returns-5 returns-6)

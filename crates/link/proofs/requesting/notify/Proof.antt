@@ -1,41 +1,17 @@
 use mathlib.Core.Path.{refl, ap, _∙_}
 use denote.Ref.{now}
 use lib.ListN.{length}
-use Rattle.peer.specs.declared.Settings.{Settings}
+use Rattle.link_peer.specs.declared.Settings.{Settings}
 use Rattle.link.proofs.Asking.{grants, refuses, requests, decided-source}
-use Rattle.writer.specs.Plain.{sized}
+use Rattle.frame_writer.specs.Plain.{sized}
 use Rattle.frame.specs.Frame.{notification}
-use Rattle.writer.specs.Writing.{eventsOf}
-use Rattle.end.specs.declared.Own.{Own}
-use Rattle.end.specs.Granting.{grantedNumber}
+use Rattle.frame_writer.specs.Writing.{eventsOf}
+use Rattle.link_end.specs.declared.Own.{Own}
+use Rattle.link_end.specs.Granting.{grantedNumber}
 use Rattle.link.specs.Requests.{notifying}
 use borrow.Author.Needs.{needs}
 use Rattle.link.proofs.requesting.notify.Statement.{statement}
 use Rattle.link.proofs.requesting.notify.Tie as tie
-
-settings-requires : tie.Need-settings-requires
-settings-requires c κs = search needs
-
-own-requires : tie.Need-own-requires
-own-requires c κs = search needs
-
-notification-octets-requires : tie.Need-notification-octets-requires
-notification-octets-requires c κs = search needs
-
-grant-number-requires : tie.Need-grant-number-requires
-grant-number-requires c κs = search needs
-
-flags-requires : tie.Need-flags-requires
-flags-requires c κs = search needs
-
-write-notification-requires : tie.Need-write-notification-requires
-write-notification-requires c κs = search needs
-
-send-requires : tie.Need-send-requires
-send-requires c κs = search needs
-
-same-length : tie.Need-same-length
-same-length c = search needs
 
 returns : tie.Need-returns
 unfolding grantedNumber
@@ -47,11 +23,8 @@ returns c =
     let source = ap (λ (s : Settings). s .source) (c .before .before .before .before .before .before .before .before .before .before .before .before .settings .ensures) ∙ decided-source q (a .e) (now (a .out)) d decides refl in
     requests q (a .e) (now (a .out)) d decides _ _
     (grants d (q .body) (now (a .out)) (c .before .before .before .before .before .before .if1 .taken)
-    (c .before .before .before .before .before .before .before .before .before .before .before .before .settings .result .source) (c .before .before .before .before .before .flags .result) (c .before .before .before .write-notification .result) _ _
-    source (c .before .before .before .before .before .flags .ensures) (rw (← c .before .before .before .before .before .before .before .before .before .before .before .own .ensures) (c .before .before .before .write-notification .ensures)) (c .send .ensures))
-
-refuse-requires : tie.Need-refuse-requires
-refuse-requires c κs = search needs
+    (c .before .before .before .before .before .before .before .before .before .before .before .before .settings .result .source) (c .before .before .before .before .before .flags-to-send .result) (c .before .before .before .write-notification .result) _ _
+    source (c .before .before .before .before .before .flags-to-send .ensures) (rw (← c .before .before .before .before .before .before .before .before .before .before .before .own .ensures) (c .before .before .before .write-notification .ensures)) (c .send .ensures))
 
 returns-2 : tie.Need-returns-2
 unfolding grantedNumber
@@ -62,17 +35,4 @@ returns-2 c =
     requests q (a .e) (now (a .out)) d (c .before .before .before .before .grant-number .ensures ∙ (λ i. grantedNumber ((c .before .before .before .before .before .notification-octets .ensures ∙ ap (λ (o : Own). sized (notification (o .number) (eventsOf (now (a .events))))) (c .before .before .before .before .before .before .own .ensures)) i) (length (now (a .out))) (a .e))) _ _ (refuses d (q .body) (now (a .out)) (c .before .if1 .left) _ (c .refuse .ensures))
 
 pub notify-spec : {M : Type 1} → statement M
-notify-spec =
-    tie.close
-    (tie.spec
-    settings-requires
-    own-requires
-    notification-octets-requires
-    grant-number-requires
-    flags-requires
-    write-notification-requires
-    send-requires
-    same-length
-    returns
-    refuse-requires
-    returns-2)
+notify-spec = tie.close (tie.spec (λ c κs. search needs) (λ c κs. search needs) (λ c κs. search needs) (λ c κs. search needs) (λ c κs. search needs) (λ c κs. search needs) (λ c κs. search needs) (λ c. search needs) returns (λ c κs. search needs) returns-2)

@@ -1,38 +1,14 @@
 use mathlib.Core.Path.{refl, ap, _∙_}
 use denote.Ref.{now}
 use lib.ListN.{length}
-use Rattle.peer.specs.declared.Settings.{Settings}
+use Rattle.link_peer.specs.declared.Settings.{Settings}
 use Rattle.link.proofs.Asking.{grants, refuses, requests, decided-source}
-use Rattle.peer.specs.Bits.{bit}
-use Rattle.end.specs.Granting.{grantedFrame}
+use Rattle.octets.specs.Bits.{bit}
+use Rattle.link_end.specs.Granting.{grantedFrame}
 use Rattle.link.specs.Requests.{requesting}
 use borrow.Author.Needs.{needs}
 use Rattle.link.proofs.requesting.request_variables.Statement.{statement}
 use Rattle.link.proofs.requesting.request_variables.Tie as tie
-
-settings-requires : tie.Need-settings-requires
-settings-requires c κs = search needs
-
-request-octets-requires : tie.Need-request-octets-requires
-request-octets-requires c κs = search needs
-
-is-active-requires : tie.Need-is-active-requires
-is-active-requires c κs = search needs
-
-grant-frame-requires : tie.Need-grant-frame-requires
-grant-frame-requires c κs = search needs
-
-flags-requires : tie.Need-flags-requires
-flags-requires c κs = search needs
-
-write-request-requires : tie.Need-write-request-requires
-write-request-requires c κs = search needs
-
-send-requires : tie.Need-send-requires
-send-requires c κs = search needs
-
-same-length : tie.Need-same-length
-same-length c = search needs
 
 returns : tie.Need-returns
 unfolding grantedFrame
@@ -44,11 +20,8 @@ returns c =
     let source = ap (λ (s : Settings). s .source) (c .before .before .before .before .before .before .before .before .before .before .before .before .settings .ensures) ∙ decided-source q (a .e) (now (a .out)) d decides refl in
     requests q (a .e) (now (a .out)) d decides _ _
     (grants d (q .body) (now (a .out)) (c .before .before .before .before .before .before .if1 .taken)
-    (c .before .before .before .before .before .before .before .before .before .before .before .before .settings .result .source) (c .before .before .before .before .before .flags .result) (c .before .before .before .write-request .result) _ _
-    source (c .before .before .before .before .before .flags .ensures) (c .before .before .before .write-request .ensures) (c .send .ensures))
-
-refuse-requires : tie.Need-refuse-requires
-refuse-requires c κs = search needs
+    (c .before .before .before .before .before .before .before .before .before .before .before .before .settings .result .source) (c .before .before .before .before .before .flags-to-send .result) (c .before .before .before .write-request .result) _ _
+    source (c .before .before .before .before .before .flags-to-send .ensures) (c .before .before .before .write-request .ensures) (c .send .ensures))
 
 returns-2 : tie.Need-returns-2
 unfolding grantedFrame
@@ -59,17 +32,4 @@ returns-2 c =
     requests q (a .e) (now (a .out)) d (c .before .before .before .before .grant-frame .ensures ∙ (λ i. grantedFrame (c .before .before .before .before .before .before .request-octets .ensures i) ((c .before .before .before .before .before .is-active .ensures ∙ ap (λ (s : Settings). bit 0 (s .configuration)) (c .before .before .before .before .before .before .before .settings .ensures)) i) (length (now (a .out))) (a .e))) _ _ (refuses d (q .body) (now (a .out)) (c .before .if1 .left) _ (c .refuse .ensures))
 
 pub request-variables-spec : {M : Type 1} → statement M
-request-variables-spec =
-    tie.close
-    (tie.spec
-    settings-requires
-    request-octets-requires
-    is-active-requires
-    grant-frame-requires
-    flags-requires
-    write-request-requires
-    send-requires
-    same-length
-    returns
-    refuse-requires
-    returns-2)
+request-variables-spec = tie.close (tie.spec (λ c κs. search needs) (λ c κs. search needs) (λ c κs. search needs) (λ c κs. search needs) (λ c κs. search needs) (λ c κs. search needs) (λ c κs. search needs) (λ c. search needs) returns (λ c κs. search needs) returns-2)

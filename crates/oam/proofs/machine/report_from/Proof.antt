@@ -1,4 +1,3 @@
--- `oam::machine::report_from` meets its contract.
 use borrow.Author.Tests.{ne-eqb}
 use Rattle.oam.proofs.machine.report_from.Statement.{statement}
 use Rattle.oam.proofs.machine.report_from.Tie as tie

@@ -1,42 +1,17 @@
--- `oam::machine::show_end` meets its contract.
 use Prim.Native.Nat.{ℕ}
 use mathlib.Core.Path.{ap, _∙_}
 use mathlib.Core.List.{List, [], _∷_, _++_}
 use denote.Ref.{now}
 use lib.ListN.{set}
 use lib.Seq.{sets}
-use Rattle.discovery.specs.Standing.{placeOf}
-use Rattle.packing.specs.Numbers.{numbersOf}
-use Rattle.packing.proofs.Packing.{numbers-long}
+use Rattle.link_discovery.specs.Standing.{standingNumber}
+use Rattle.oam_packing.specs.Numbers.{numbersOf}
+use Rattle.oam_packing.proofs.Joining.{numbers-long}
 use Rattle.oam.specs.Machine.{endNumbers}
 use Rattle.oam.proofs.Stepped.{one-more}
 use borrow.Author.Needs.{needs}
 use Rattle.oam.proofs.machine.show_end.Statement.{statement}
 use Rattle.oam.proofs.machine.show_end.Tie as tie
-
-numbers-of-requires : tie.Need-numbers-of-requires
-numbers-of-requires c κs = search needs
-
-slice-aggregate-show : tie.Need-slice-aggregate-show
-slice-aggregate-show c = search needs
-
-show-requires : tie.Need-show-requires
-show-requires c κs = search needs
-
-discovery-requires : tie.Need-discovery-requires
-discovery-requires c κs = search needs
-
-number-requires : tie.Need-number-requires
-number-requires c κs = search needs
-
-cast-lent : tie.Need-cast-lent
-cast-lent c = search needs
-
-slice-write-lent : tie.Need-slice-write-lent
-slice-write-lent c = search needs
-
-same-length : tie.Need-same-length
-same-length c = search needs
 
 returns : tie.Need-returns
 unfolding endNumbers
@@ -44,7 +19,7 @@ returns c =
     let a = c .before .before .before .before .before .before .before .before .before .args in
     let s = c .before .before .before .before .show .ensures in
     let xs = numbersOf (a .e) in
-    let place = c .number .ensures ∙ ap placeOf (c .before .discovery .ensures) in
+    let place = c .number .ensures ∙ ap standingNumber (c .before .discovery-of .ensures) in
     record {
       answers = s .answers;
       stored =
@@ -54,15 +29,4 @@ returns c =
     }
 
 pub show-end-spec : {M : Type 1} → statement M
-show-end-spec =
-    tie.close
-    (tie.spec
-    numbers-of-requires
-    slice-aggregate-show
-    show-requires
-    discovery-requires
-    number-requires
-    cast-lent
-    slice-write-lent
-    same-length
-    returns)
+show-end-spec = tie.close (tie.spec (λ c κs. search needs) (λ c. search needs) (λ c κs. search needs) (λ c κs. search needs) (λ c κs. search needs) (λ c. search needs) (λ c. search needs) (λ c. search needs) returns)

@@ -1,6 +1,3 @@
--- `text::decimal::digits` meets its contract. The invariant: the number has one digit less than are counted and the rest
--- together have, and the rest fits into the places that are left of twenty.
--- Assumes nothing.
 use Prim.Native.Nat.{ℕ, zero, suc, _+_, _/_, _^_, _≤_, _<_}
 use mathlib.Core.Path.{_≡_, refl, ap}
 use native.Mathlib.Omega.{arith}
@@ -10,7 +7,8 @@ use Rattle.text.proofs.Decimals.{one-digit, one-more, tenth}
 use Rattle.text.proofs.decimal.digits.Statement.{statement}
 use Rattle.text.proofs.decimal.digits.Tie as tie
 
--- so many digits in all, so many counted, and the rest
+-- So many digits in all, so many counted, and the rest: the rest's last digit is counted already, so that they are one more
+-- than all together, and the rest fits into the places that are left of twenty.
 abbrev Counted : ℕ → ℕ → ℕ → Type 0
 Counted all count rest = (places : ℕ) × (count + places ≡ 20) × (rest < 10 ^ suc places) × (all + 1 ≡ count + length (decimalIn (suc places) rest))
 
@@ -22,31 +20,16 @@ one-counted all count rest more (places, sum, within, e) = go places sum within 
     go (suc places) sum within e = (places, omega arith, tenth (suc places) rest within, omega (arith, one-more (suc places) rest more))
 
 abbrev Inv-loop : tie.InvT-loop
-Inv-loop n count₀ rest₀ count rest =
-    Counted (length (decimal n)) count rest
+Inv-loop n count₀ rest₀ count rest = Counted (length (decimal n)) count rest
 
 abbrev μ-loop : tie.MeasureT-loop
 μ-loop n count₀ rest₀ count rest = rest
 
-loop-holds : tie.Need-loop-holds Inv-loop μ-loop
-loop-holds c = (19, refl, omega arith, omega arith)
-
-add-count : tie.Need-add-count Inv-loop μ-loop
-add-count c = omega arith
-
-loop-less : tie.Need-loop-less Inv-loop μ-loop
-loop-less c = omega arith
-
-loop-again : tie.Need-loop-again Inv-loop μ-loop
-loop-again c =
-    let l = c .before .loop in
-    one-counted _ (l .count) (l .rest) (c .loop-test .taken) (l .inv)
-
-returns : tie.Need-returns Inv-loop μ-loop
-returns c =
-    let l = c .before .loop in
-    omega (arith, ap length (one-digit (l .inv .0) (l .rest) (c .loop-test .left)))
-
 pub digits-spec : {M : Type 1} → statement M
-digits-spec =
-    tie.close (tie.spec Inv-loop μ-loop loop-holds add-count loop-less loop-again returns)
+digits-spec = tie.close (tie.spec
+    Inv-loop μ-loop
+    (λ c. (19, refl, omega arith, omega arith))
+    (λ c. omega arith)
+    (λ c. omega arith)
+    (λ c. let l = c .before .loop in one-counted _ (l .count) (l .rest) (c .loop-test .taken) (l .inv))
+    (λ c. let l = c .before .loop in omega (arith, ap length (one-digit (l .inv .0) (l .rest) (c .loop-test .left)))))

@@ -1,5 +1,3 @@
--- `text::decimal::put_decimal` meets its contract.
--- Assumes nothing.
 use mathlib.Core.Path.{_≡_, sym}
 use mathlib.Core.List.{_∷_, []}
 use native.Mathlib.Omega.{arith}
@@ -8,41 +6,10 @@ use lib.ListN.{length}
 use Rattle.text.specs.Decimal.{decimal}
 use Rattle.text.proofs.Decimals.{length-field}
 use Rattle.text.proofs.Puts.{stored, refused}
-use Rattle.text.proofs.Stores.{sets-append}
+use Rattle.octets.proofs.Stores.{sets-append}
 use borrow.Author.Needs.{needs}
 use Rattle.text.proofs.decimal.put_decimal.Statement.{statement}
 use Rattle.text.proofs.decimal.put_decimal.Tie as tie
-
-digits-requires : tie.Need-digits-requires
-digits-requires c κs = search needs
-
-returns : tie.Need-returns
-returns c =
-    let a = c .before .before .before .args in
-    refused _ _ _ (omega (arith, length-field (a .n) (a .after)))
-
-sub-if2 : tie.Need-sub-if2
-sub-if2 c = search needs
-
-returns-2 : tie.Need-returns-2
-returns-2 c =
-    let a = c .before .before .before .before .args in
-    refused _ _ _ (omega (arith, length-field (a .n) (a .after)))
-
-store-requires : tie.Need-store-requires
-store-requires c κs = search needs
-
-add-end : tie.Need-add-end
-add-end c = search needs
-
-slice-write-out : tie.Need-slice-write-out
-slice-write-out c = search needs
-
-add-result : tie.Need-add-result
-add-result c = search needs
-
-same-length : tie.Need-same-length
-same-length c = search needs
 
 returns-3 : tie.Need-returns-3
 returns-3 c =
@@ -53,16 +20,9 @@ returns-3 c =
     (rw (c .before .before .store .ensures, count) (sym (sets-append (now (a .out)) (a .at) (decimal (a .n)) (a .after ∷ []))))
 
 pub put-decimal-spec : {M : Type 1} → statement M
-put-decimal-spec =
-    tie.close
-    (tie.spec
-    digits-requires
-    returns
-    sub-if2
-    returns-2
-    store-requires
-    add-end
-    slice-write-out
-    add-result
-    same-length
-    returns-3)
+put-decimal-spec = tie.close (tie.spec
+    (λ c κs. search needs)
+    (λ c. let a = c .before .before .before .args in refused _ _ _ (omega (arith, length-field (a .n) (a .after))))
+    (λ c. search needs)
+    (λ c. let a = c .before .before .before .before .args in refused _ _ _ (omega (arith, length-field (a .n) (a .after))))
+    (λ c κs. search needs) (λ c. search needs) (λ c. search needs) (λ c. search needs) (λ c. search needs) returns-3)

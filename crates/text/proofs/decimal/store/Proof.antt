@@ -1,6 +1,4 @@
--- `text::decimal::store` meets its contract. The invariant: all the digits stored at the start are what storing those that are
--- left gives now.
--- Assumes nothing.
+-- The invariant: all the digits stored at the start are what storing those that are left gives now.
 use Prim.Native.Nat.{ℕ, _+_, _/_, _%_, _-_, _≤_, _<_}
 use mathlib.Core.Path.{_≡_, sym, ap, _∙_}
 use native.Mathlib.Omega.{arith}
@@ -10,7 +8,7 @@ use lib.ListN.{length, set, length-set, length-append}
 use lib.Seq.{sets}
 use Rattle.text.specs.Decimal.{decimalIn, decimal}
 use Rattle.text.proofs.Decimals.{last-digit}
-use Rattle.text.proofs.Stores.{sets-last, empty}
+use Rattle.octets.proofs.Stores.{sets-last, empty}
 use Rattle.text.proofs.decimal.store.Statement.{statement}
 use Rattle.text.proofs.decimal.store.Tie as tie
 
@@ -35,36 +33,6 @@ Inv-loop out₀ at count n left₀ rest₀ out left rest =
 abbrev μ-loop : tie.MeasureT-loop
 μ-loop out₀ at count n left₀ rest₀ out left rest = left
 
-loop-holds : tie.Need-loop-holds Inv-loop μ-loop
-loop-holds c = search needs
-
-sub-left : tie.Need-sub-left Inv-loop μ-loop
-sub-left c = search needs
-
-cast-out : tie.Need-cast-out Inv-loop μ-loop
-cast-out c = search needs
-
-add-out : tie.Need-add-out Inv-loop μ-loop
-add-out c = search needs
-
-add-out-2 : tie.Need-add-out-2 Inv-loop μ-loop
-add-out-2 c = search needs
-
-slice-write-out : tie.Need-slice-write-out Inv-loop μ-loop
-slice-write-out c = search needs
-
-loop-less : tie.Need-loop-less Inv-loop μ-loop
-loop-less c = search needs
-
-loop-again : tie.Need-loop-again Inv-loop μ-loop
-loop-again c =
-    let a = c .before .before .args in
-    let l = c .before .loop in
-    (simp length-set (l .inv .0), omega arith, one-stored _ (l .out) (a .at) (l .left) (l .rest) (c .loop-test .taken) (l .inv .2))
-
-same-length : tie.Need-same-length Inv-loop μ-loop
-same-length c = search needs
-
 returns : tie.Need-returns Inv-loop μ-loop
 returns c =
     let a = c .before .before .args in
@@ -73,18 +41,7 @@ returns c =
     sym (l .inv .2 .2 ∙ rw (empty (decimalIn (l .inv .2 .0) (l .rest)) none))
 
 pub store-spec : {M : Type 1} → statement M
-store-spec =
-    tie.close
-    (tie.spec
-    Inv-loop
-    μ-loop
-    loop-holds
-    sub-left
-    cast-out
-    add-out
-    add-out-2
-    slice-write-out
-    loop-less
-    loop-again
-    same-length
-    returns)
+store-spec = tie.close (tie.spec
+    Inv-loop μ-loop (λ c. search needs) (λ c. search needs) (λ c. search needs) (λ c. search needs) (λ c. search needs) (λ c. search needs) (λ c. search needs)
+    (λ c. let a = c .before .before .args in let l = c .before .loop in (simp length-set (l .inv .0), omega arith, one-stored _ (l .out) (a .at) (l .left) (l .rest) (c .loop-test .taken) (l .inv .2)))
+    (λ c. search needs) returns)

@@ -1,4 +1,0 @@
-pub mod Judging
-pub mod Wholes
-pub mod Strides
-pub mod Places

@@ -1,4 +1,0 @@
-pub mod Information
-pub mod Variables
-pub mod Lists
-pub mod Judging

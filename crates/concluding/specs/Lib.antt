@@ -1,2 +1,0 @@
--- What the promises of concluding cite.
-pub mod Concluding

@@ -1,3 +1,0 @@
-pub mod Limit
-pub mod Owing
-pub mod Asking

@@ -1,0 +1,2 @@
+-- The laws of discovery that the crates above use.
+pub mod Resting

@@ -1,0 +1,15 @@
+use borrow.Author.Tests.{lt-ltb, le-ltb}
+use Rattle.link_limit.specs.Limit.{isBounded}
+use Rattle.link_limit.proofs.limit.is_bounded.Statement.{statement}
+use Rattle.link_limit.proofs.limit.is_bounded.Tie as tie
+
+returns : tie.Need-returns
+unfolding isBounded
+returns c = simp (lt-ltb _ _ (c .before .if1 .taken))
+
+returns-2 : tie.Need-returns-2
+unfolding isBounded
+returns-2 c = simp (le-ltb _ _ (c .if1 .left))
+
+pub is-bounded-spec : {M : Type 1} → statement M
+is-bounded-spec = tie.close (tie.spec returns returns-2)

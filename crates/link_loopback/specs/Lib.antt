@@ -1,0 +1,3 @@
+-- What the promises of link_loopback cite, and those of the crates above.
+pub mod Roles
+pub mod Loopback

@@ -1,7 +1,0 @@
--- What the promises of listing cite. Rows, Lines and Listing say what the listing of an input is; Taking and Feeding how the
--- code comes to it.
-pub mod Rows
-pub mod Lines
-pub mod Listing
-pub mod Taking
-pub mod Feeding

@@ -1,0 +1,3 @@
+-- What the promises of oam_outcomes cite.
+pub mod Written
+pub mod Stepped

@@ -1,0 +1,107 @@
+// An end in the octets of a state, in which a caller keeps it.
+//
+// Each part of an end is a module of its own, which alone knows the part's octets. They are joined here, and this place knows
+// only their lengths. The octets of an end that keeps to its ranges are unpacked to it, and no other octets are
+// (`theorems_packing`).
+mod link;
+mod meter;
+mod own;
+mod parts;
+mod peers;
+mod roles;
+mod settings;
+
+ghost use mathlib.Core.Path.{_≡_};
+ghost use lib.ListN.{length, take, drop};
+ghost use Rattle.octets.specs.Octets.{total};
+ghost use Rattle.link_end.specs.Ranges.{checked};
+ghost use Rattle.oam_packing.specs.Parts.{storedAt};
+ghost use Rattle.oam_packing.specs.Octets.{partLengths, stateLength, endParts, packedIn, isState, endOf, unpacked};
+use link_end::End;
+use link_end::MaybeEnd;
+use parts::part;
+pub use peers::is_known;
+pub use peers::last_number;
+
+// Where each part begins: after the parts before it.
+const LINK: usize = settings::LENGTH;
+
+const PEER: usize = LINK + link::LENGTH;
+
+const ROLE: usize = PEER + peers::LENGTH;
+
+const METER: usize = ROLE + roles::LENGTH;
+
+const OWN: usize = METER + meter::LENGTH;
+
+// The octets of a state.
+pub const STATE_LENGTH: usize = OWN + own::LENGTH;
+
+// Whether every part's octets are those of some such part.
+fn is_state(state: &[u8]) -> bool
+    requires { ⌜ length (now state) ≡ stateLength ⌝ }
+    ensures { λ r. ⌜ r ≡ isState (now (state .entry)) ⌝ }
+{
+    octets::all_four(
+        link::is_link(part(state, LINK, link::LENGTH)),
+        peers::is_peer(part(state, PEER, peers::LENGTH)),
+        roles::is_role(part(state, ROLE, roles::LENGTH)),
+        own::is_own(part(state, OWN, own::LENGTH)),
+    )
+}
+
+// The end whose parts stand in the octets of a state, or 10 where it does not keep to its ranges.
+fn end_of(state: &[u8]) -> MaybeEnd
+    requires { ⌜ length (now state) ≡ stateLength ⌝ }
+    ensures { λ r. ⌜ r ≡ checked (endOf (now (state .entry))) ⌝ }
+{
+    link_end::end_with(
+        settings::settings_from(part(state, 0, settings::LENGTH)),
+        link::link_from(part(state, LINK, link::LENGTH)),
+        peers::peer_from(part(state, PEER, peers::LENGTH)),
+        roles::role_from(part(state, ROLE, roles::LENGTH)),
+        meter::meter_from(part(state, METER, meter::LENGTH)),
+        own::own_from(part(state, OWN, own::LENGTH)),
+    )
+}
+
+// The end that a caller keeps in some octets, or 10 where no end is packed to them.
+pub fn unpack(state: &[u8]) -> MaybeEnd
+    ensures { λ r. ⌜ r ≡ unpacked (now (state .entry)) ⌝ }
+{
+    if state.len() != STATE_LENGTH {
+        return MaybeEnd::Refused(10);
+    }
+    if is_state(state) {
+        return end_of(state);
+    }
+    MaybeEnd::Refused(10)
+}
+
+// Stores the first three parts of an end, each where the one before it ends; below, the others.
+fn put_first(e: End, state: &mut [u8])
+    ensures { λ _. ⌜ now (state .exit) ≡ storedAt (take 3 partLengths) (take 3 (endParts e)) (now (state .entry)) 0 ⌝ }
+{
+    octets::put_octets(state, 0, &settings::settings_octets(e.settings()));
+    octets::put_octets(state, LINK, &link::link_octets(e.link()));
+    octets::put_octets(state, PEER, &peers::peer_octets(e.peer()));
+}
+
+fn put_others(e: End, state: &mut [u8])
+    ensures { λ _. ⌜ now (state .exit) ≡ storedAt (drop 3 partLengths) (drop 3 (endParts e)) (now (state .entry)) (total (take 3 partLengths)) ⌝ }
+{
+    octets::put_octets(state, ROLE, &roles::role_octets(e.role()));
+    octets::put_octets(state, METER, &meter::meter_octets(e.meter()));
+    octets::put_octets(state, OWN, &own::own_octets(e.own()));
+}
+
+// Stores an end in the octets of a state; in any other nothing is stored.
+pub fn pack(e: End, state: &mut [u8])
+    ensures { λ _. ⌜ now (state .exit) ≡ packedIn e (now (state .entry)) ⌝ }
+{
+    if state.len() != STATE_LENGTH {
+        return;
+    }
+    put_first(e, state);
+    put_others(e, state);
+}

@@ -1,0 +1,7 @@
+-- What the promises of oam_showing cite.
+pub mod Showing
+pub mod Parts
+pub mod Reading
+pub mod Storing
+pub mod Lines
+pub mod Taking

@@ -1,4 +1,0 @@
-pub mod Lists
-pub mod System
-pub mod Safe
-pub mod Examples

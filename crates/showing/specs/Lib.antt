@@ -1,7 +1,0 @@
--- What the promises of showing cite.
-pub mod Showing
-pub mod Parts
-pub mod Reading
-pub mod Storing
-pub mod Lines
-pub mod Taking

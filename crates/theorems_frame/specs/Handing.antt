@@ -1,0 +1,68 @@
+-- What a caller who reads a frame hands to the writer of its code, and what comes of it.
+use Prim.Native.Nat.{ℕ, _≤_}
+use mathlib.Core.Path.{_≡_}
+use mathlib.Core.List.{List, [], _∷_, _++_}
+use mathlib.Core.Bool.{cond}
+use lib.Dec.{eqb}
+use lib.ListN.{length, drop}
+use lib.Seq.{sets}
+use Rattle.octets.specs.Layout.{bodyStart, eventsStart, dataStart}
+use Rattle.frame_tlvs.specs.Walk.{met}
+use Rattle.frame_tlvs.specs.Events.{eventWalk}
+use Rattle.frame_tlvs.specs.declared.Event.{Event}
+use Rattle.frame_body.specs.declared.Held.{Held}
+use Rattle.frame_body.specs.declared.Held.the-variants.{Nothing, Is}
+use Rattle.frame_body.specs.declared.Found.{Found}
+use Rattle.frame_body.specs.Information.{InformationPart, local, remote, informationWalk, localIn}
+use Rattle.frame_body.specs.Variables.{descriptorWalk}
+use Rattle.frame.specs.Frame.{information, notification, request, loopback, organization, Message, judgementOf, headerOf, fixedNumber}
+use Rattle.frame.specs.declared.Header.{Header}
+use Rattle.frame.specs.declared.Judgement.{Judgement}
+use Rattle.frame.specs.declared.Judgement.the-variants.{Refused, Accepted}
+use Rattle.frame_writer.specs.Encode.{eventValues}
+use Rattle.frame_writer.specs.Writing.{writes, written, messageOf, partsOf, eventsOf}
+use Rattle.frame_writer.specs.declared.Written.the-variants.{Wrote}
+
+-- events as the writer takes them: seven numbers an event, its type and its six values
+abbrev pub sevens : List Event → List ℕ
+sevens [] = []
+sevens (e ∷ es) = (e .kind ∷ eventValues e) ++ sevens es
+
+-- the first Remote of the parts, as `localIn` is the first Local: a body that is accepted has no second
+abbrev pub remoteIn : List InformationPart → Held
+remoteIn [] = Nothing
+remoteIn (local i ∷ ps) = remoteIn ps
+remoteIn (remote i ∷ ps) = Is i
+
+abbrev pub foundIn : List InformationPart → Found
+foundIn ps = record { local = localIn ps; remote = remoteIn ps }
+
+-- a writer's message, or no writer
+pub data Handed : Type 0 where
+  nothing : Handed
+  is : Message → Handed
+
+-- The message of the writer of the header's code, as its contract has it, where that is handed the header's source and flags
+-- and what else the reader gives: the Local and the Remote that the steps meet, the number at the body's start, the events that
+-- the steps meet, the descriptors that they meet, and the part of the frame from octet 21. "Response bodies are read only".
+abbrev pub handedBy : List ℕ → Header → Handed
+handedBy f h =
+    cond (eqb (h .code) 0) (is (messageOf (h .source) (h .flags) (information (partsOf (foundIn (met (informationWalk (drop bodyStart f))))))))
+    (cond (eqb (h .code) 1)
+    (is (messageOf (h .source) (h .flags) (notification (fixedNumber f) (eventsOf (sevens (met (eventWalk (drop eventsStart f))))))))
+    (cond (eqb (h .code) 2) (is (messageOf (h .source) (h .flags) (request (met (descriptorWalk (drop bodyStart f))))))
+    (cond (eqb (h .code) 4) (is (messageOf (h .source) (h .flags) (loopback (fixedNumber f))))
+    (cond (eqb (h .code) 0xfe) (is (messageOf (h .source) (h .flags) (organization (fixedNumber f) (drop dataStart f))))
+    nothing))))
+
+-- the same of a frame that is judged
+abbrev pub handed : List ℕ → Judgement → Handed
+handed f (Refused n) = nothing
+handed f (Accepted at) = handedBy f (headerOf f)
+
+-- there is such a writer, and where its output is long enough it writes the very frame
+pub record Again (f : List ℕ) : Type 0 where
+  pub message : Message
+  pub hands : handed f (judgementOf f) ≡ is message
+  pub answer : (out : List ℕ) → length f ≤ length out → writes message (length out) ≡ Wrote (length f)
+  pub output : (out : List ℕ) → length f ≤ length out → written message out ≡ sets out 0 f

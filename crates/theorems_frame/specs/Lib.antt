@@ -1,0 +1,3 @@
+-- What the theorems say of frames.
+pub mod PlainFrame
+pub mod Handing

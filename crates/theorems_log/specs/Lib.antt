@@ -1,0 +1,2 @@
+-- What the theorems are said with.
+pub mod Longest

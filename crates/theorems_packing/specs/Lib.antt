@@ -1,0 +1,1 @@
+-- The theorems are said with the definitions of `oam_packing` alone.

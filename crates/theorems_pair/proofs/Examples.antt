@@ -1,0 +1,10 @@
+-- The paper's proved examples, under a single statement.
+use mathlib.Core.Path.{_≡_, refl}
+use Rattle.frame_body.specs.Variables.{descriptorStep, containerStep}
+use Rattle.link_end.specs.Ranges.{blank}
+use Rattle.theorems_reach.proofs.Witness.{machine}
+use Rattle.theorems_pair.specs.Examples.{rows, foundIn, expectedIn}
+
+pub examples-hold : foundIn rows ≡ expectedIn rows
+unfolding machine descriptorStep containerStep blank
+examples-hold = refl

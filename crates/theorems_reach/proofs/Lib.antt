@@ -1,0 +1,25 @@
+-- The theorems on one end, and what they rest on (docs/PROMISES.md lists the theorems by file).
+pub mod Bools
+pub mod Coming
+pub mod Standing
+pub mod Hearing
+pub mod Keeping
+pub mod Staying
+pub mod Passing
+pub mod Roles
+pub mod Ranging
+pub mod Guarding
+pub mod Refusing
+pub mod Plainly
+pub mod Framing
+pub mod Counting
+pub mod Waiting
+pub mod Numbering
+pub mod Losing
+pub mod Effects
+pub mod Moving
+pub mod InSendAny
+pub mod Beginning
+pub mod Saying
+pub mod Owed
+pub mod Witness

@@ -1,4 +1,0 @@
-pub mod Octets
-pub mod Walk
-pub mod Tlvs
-pub mod Events

@@ -1,4 +1,0 @@
-pub mod Octets
-pub mod Encode
-pub mod Plain
-pub mod Writing

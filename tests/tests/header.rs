@@ -1,0 +1,218 @@
+//! The archive's header and the Rattle sources, held together: the octets of a state, the places of the numbers that `oam_show`
+//! stores, the lengths of frames; and the header's version, which every change request raises.
+
+use std::collections::BTreeMap;
+use std::fs;
+use std::path::{Path, PathBuf};
+
+fn repository() -> PathBuf {
+    Path::new(env!("CARGO_MANIFEST_DIR"))
+        .parent()
+        .expect("the tests stand in the repository")
+        .to_path_buf()
+}
+
+fn text(path: &str) -> String {
+    let path = repository().join(path);
+    fs::read_to_string(&path).unwrap_or_else(|error| panic!("{}: {error}", path.display()))
+}
+
+/// The numbers that a header names, by `#define NAME NUMBER` or by `NAME = NUMBER` in an enum.
+fn named_in_header(header: &str) -> BTreeMap<&str, u64> {
+    let mut named = BTreeMap::new();
+    for line in header.lines() {
+        let code = line.split("/*").next().unwrap_or("");
+        let pairs = match code.strip_prefix("#define ") {
+            Some(rest) => rest.split_once(' ').into_iter().collect(),
+            None => code
+                .split(['{', ',', '}'])
+                .filter_map(|part| part.split_once('='))
+                .collect::<Vec<_>>(),
+        };
+        for (name, number) in pairs {
+            if let Ok(number) = number.trim().parse() {
+                named.insert(name.trim(), number);
+            }
+        }
+    }
+    named
+}
+
+/// The constants of a Rattle source, each a sum of numbers and of names: its own, or those of another module as `module::NAME`.
+fn constants(source: &str) -> BTreeMap<String, String> {
+    let mut constants = BTreeMap::new();
+    for line in source.lines() {
+        let Some((_, rest)) = line.split_once("const ") else {
+            continue;
+        };
+        let Some((name, rest)) = rest.split_once(": usize = ") else {
+            continue;
+        };
+        constants.insert(name.to_string(), rest.trim_end_matches(';').to_string());
+    }
+    constants
+}
+
+/// The number of a constant of a module, by the sources of all modules; the module of `lib.rt` is "".
+fn number_of(modules: &BTreeMap<String, String>, module: &str, name: &str) -> u64 {
+    let sum = constants(&modules[module])
+        .remove(name)
+        .unwrap_or_else(|| panic!("no constant {name} in the module `{module}`"));
+    let terms = sum.split('+').map(str::trim);
+    let values = terms.map(|term| match (term.parse(), term.split_once("::")) {
+        (Ok(number), _) => number,
+        (_, Some((other, name))) => number_of(modules, other, name),
+        (_, None) => number_of(modules, module, term),
+    });
+    values.sum()
+}
+
+/// The sources of a crate by their modules.
+fn modules(name: &str) -> BTreeMap<String, String> {
+    let folder = repository().join("crates").join(name).join("src");
+    let files = fs::read_dir(&folder).unwrap_or_else(|e| panic!("{}: {e}", folder.display()));
+    let sources = files.map(|file| {
+        let path = file.expect("a folder that can be read").path();
+        let stem = path.file_stem().expect("a file's name").to_string_lossy();
+        let module = if stem == "lib" { "".into() } else { stem };
+        let source = fs::read_to_string(&path).expect("a source that can be read");
+        (module.to_string(), source)
+    });
+    sources.collect()
+}
+
+/// The numbers that an end is shown as, in the order of the array that `join_numbers` makes.
+fn shown_numbers(source: &str) -> Vec<String> {
+    let (_, body) = source
+        .split_once("fn join_numbers(")
+        .expect("the function that joins an end's numbers");
+    let (_, array) = body.split_once("    [\n").expect("its array");
+    let (array, _) = array.split_once("\n    ]").expect("the array's end");
+    let numbers = array.lines().map(|line| {
+        let line = line.trim().trim_end_matches(',');
+        line.trim_end_matches(" as u64").to_string()
+    });
+    numbers.collect()
+}
+
+/// The places that `oam.h` gives them. A record's seven numbers begin at the first of them.
+const PLACES: [(&str, &str); 21] = [
+    ("OAM_NUMBER_CONFIGURATION", "settings.configuration"),
+    ("OAM_NUMBER_SIZE", "settings.size"),
+    ("OAM_NUMBER_OUI", "settings.oui"),
+    ("OAM_NUMBER_VENDOR", "settings.vendor"),
+    ("OAM_NUMBER_SOURCE", "settings.source"),
+    ("OAM_NUMBER_REQUIRED", "settings.required"),
+    ("OAM_NUMBER_LINK_UP", "bit_of(link.up)"),
+    ("OAM_NUMBER_LOST_LINK_COUNT", "link.lost"),
+    ("OAM_NUMBER_KEPT_FIELD", "peer.kept"),
+    ("OAM_NUMBER_RECORD_HELD", "bit_of(link_peer::is_held(held))"),
+    ("OAM_NUMBER_RECORD", "i.version"),
+    ("OAM_NUMBER_LAST_HELD", "bit_of(is_known(last))"),
+    ("OAM_NUMBER_LAST", "last_number(last)"),
+    ("OAM_NUMBER_ROLE", "role.number()"),
+    ("OAM_NUMBER_TICKS", "link_limit::ticks(meter)"),
+    ("OAM_NUMBER_FRAMES_WRITTEN", "link_limit::written(meter)"),
+    ("OAM_NUMBER_REVISION", "own.revision"),
+    ("OAM_NUMBER_NEXT_EVENT", "own.number"),
+    ("OAM_NUMBER_DYING_GASP", "bit_of(own.gasp)"),
+    ("OAM_NUMBER_CRITICAL_EVENT", "bit_of(own.critical)"),
+    ("OAM_NUMBER_OWED", "bit_of(own.owed)"),
+];
+
+/// A record's numbers are those of an Information TLV.
+const RECORD: [(&str, &str); 7] = [
+    ("OAM_INFORMATION_VERSION", "i.version"),
+    ("OAM_INFORMATION_REVISION", "i.revision"),
+    ("OAM_INFORMATION_STATE", "i.state"),
+    ("OAM_INFORMATION_CONFIGURATION", "i.configuration"),
+    ("OAM_INFORMATION_OAMPDU_CONFIGURATION", "i.oampdu"),
+    ("OAM_INFORMATION_OUI", "i.oui"),
+    ("OAM_INFORMATION_VENDOR", "i.vendor"),
+];
+
+/// The names whose place in the header is not where their number stands.
+fn misplaced(header: &str, source: &str) -> Vec<String> {
+    let named = named_in_header(header);
+    let numbers = shown_numbers(source);
+    let from = named.get("OAM_NUMBER_RECORD").copied();
+    let records = RECORD.map(|(name, number)| {
+        let place = named.get(name).zip(from).map(|(place, from)| from + place);
+        (name, number, place)
+    });
+    let places = PLACES.map(|(name, number)| (name, number, named.get(name).copied()));
+    let stands = |number: &str, place: Option<u64>| {
+        place.and_then(|place| numbers.get(place as usize)) == Some(&number.to_string())
+    };
+    let wrong = places.iter().chain(&records);
+    let wrong = wrong.filter(|(_, number, place)| !stands(number, *place));
+    wrong.map(|(name, _, _)| name.to_string()).collect()
+}
+
+#[test]
+fn the_numbers_of_an_end_stand_where_the_header_says() {
+    let header = text("include/oam.h");
+    let source = text("crates/oam_numbers/src/lib.rt");
+    assert_eq!(misplaced(&header, &source), Vec::<String>::new());
+
+    let named = named_in_header(&header);
+    let count = shown_numbers(&source).len() as u64;
+    assert_eq!(named["OAM_NUMBER_DISCOVERY"], count);
+    assert_eq!(named["OAM_SHOWN_NUMBERS"], count + 1);
+    let places = named.keys().filter(|name| name.starts_with("OAM_NUMBER_"));
+    assert_eq!(places.count(), PLACES.len() + 1, "a place has no number");
+    assert_eq!(count as usize, PLACES.len() + RECORD.len() - 1);
+}
+
+#[test]
+fn a_place_that_is_another_is_seen() {
+    let header = text("include/oam.h");
+    let source = text("crates/oam_numbers/src/lib.rt");
+    let changed = header.replace("OAM_NUMBER_OUI = 2", "OAM_NUMBER_OUI = 3");
+    assert_eq!(misplaced(&changed, &source), ["OAM_NUMBER_OUI"]);
+    let changed = source.replace("i.revision as u64", "i.state as u64");
+    assert_eq!(misplaced(&header, &changed), ["OAM_INFORMATION_REVISION"]);
+}
+
+#[test]
+fn a_state_and_a_frame_are_as_long_as_the_header_says() {
+    let header = text("include/oam.h");
+    let named = named_in_header(&header);
+    let packing = modules("oam_packing");
+    let octets = named["OAM_STATE_OCTETS"];
+    assert_eq!(number_of(&packing, "", "STATE_LENGTH"), octets);
+    assert_eq!(oam_tests::library::machine::STATE_OCTETS as u64, octets);
+
+    let layout = modules("octets");
+    let frames = [
+        ("OAM_SHORTEST_FRAME", "SHORTEST_FRAME"),
+        ("OAM_LEAST_OUT", "SHORTEST_FRAME"),
+        ("OAM_LONGEST_FRAME", "LONGEST_FRAME"),
+        ("OAM_ORGANIZATION_AT", "DATA_START"),
+    ];
+    for (name, constant) in frames {
+        assert_eq!(named[name], number_of(&layout, "", constant), "{name}");
+    }
+}
+
+#[test]
+fn a_part_that_grows_makes_the_state_longer() {
+    let mut packing = modules("oam_packing");
+    let before = number_of(&packing, "", "STATE_LENGTH");
+    let own = packing.get_mut("own").expect("the module of own numbers");
+    *own = own.replace("const LENGTH: usize = 7;", "const LENGTH: usize = 9;");
+    assert_eq!(number_of(&packing, "", "STATE_LENGTH"), before + 2);
+}
+
+#[test]
+fn the_version_is_raised_by_every_change_request() {
+    let header = text("include/oam.h");
+    let named = named_in_header(&header);
+    let folder = repository().join("docs/changes");
+    let notes = fs::read_dir(&folder).expect("the notes of changes");
+    let notes = notes.filter(|note| {
+        let name = note.as_ref().expect("a note").file_name();
+        name != "README.md"
+    });
+    assert_eq!(named["OAM_VERSION"], 1 + notes.count() as u64);
+}
