@@ -2,20 +2,12 @@
 //! and every entry in the archive's header; every public function is among the promises of its crate, has a contract, and has no
 //! condition on its caller; and those that give an end are among those that are said to keep its ranges.
 
+mod sources;
+
+use sources::{repository, text};
 use std::collections::BTreeSet;
 use std::fs;
 use std::path::{Path, PathBuf};
-
-fn repository() -> PathBuf {
-    Path::new(env!("CARGO_MANIFEST_DIR"))
-        .parent()
-        .expect("the package stands in the repository")
-        .to_path_buf()
-}
-
-fn text(path: &Path) -> String {
-    fs::read_to_string(path).unwrap_or_else(|e| panic!("{}: {e}", path.display()))
-}
 
 /// The files below a folder with an extension.
 fn files(folder: &Path, extension: &str) -> Vec<PathBuf> {

@@ -1,21 +1,11 @@
 //! The archive's header and the Rattle sources, held together: the octets of a state, the places of the numbers that `oam_show`
 //! stores, the lengths of frames; and the header's version, which every change request raises.
 
+mod sources;
+
+use sources::{repository, text};
 use std::collections::BTreeMap;
 use std::fs;
-use std::path::{Path, PathBuf};
-
-fn repository() -> PathBuf {
-    Path::new(env!("CARGO_MANIFEST_DIR"))
-        .parent()
-        .expect("the tests stand in the repository")
-        .to_path_buf()
-}
-
-fn text(path: &str) -> String {
-    let path = repository().join(path);
-    fs::read_to_string(&path).unwrap_or_else(|error| panic!("{}: {error}", path.display()))
-}
 
 /// The numbers that a header names, by `#define NAME NUMBER` or by `NAME = NUMBER` in an enum.
 fn named_in_header(header: &str) -> BTreeMap<&str, u64> {
@@ -75,8 +65,7 @@ fn modules(name: &str) -> BTreeMap<String, String> {
         let path = file.expect("a folder that can be read").path();
         let stem = path.file_stem().expect("a file's name").to_string_lossy();
         let module = if stem == "lib" { "".into() } else { stem };
-        let source = fs::read_to_string(&path).expect("a source that can be read");
-        (module.to_string(), source)
+        (module.to_string(), text(&path))
     });
     sources.collect()
 }
@@ -151,8 +140,8 @@ fn misplaced(header: &str, source: &str) -> Vec<String> {
 
 #[test]
 fn the_numbers_of_an_end_stand_where_the_header_says() {
-    let header = text("include/oam.h");
-    let source = text("crates/oam_numbers/src/lib.rt");
+    let header = text(&repository().join("include/oam.h"));
+    let source = text(&repository().join("crates/oam_numbers/src/lib.rt"));
     assert_eq!(misplaced(&header, &source), Vec::<String>::new());
 
     let named = named_in_header(&header);
@@ -166,8 +155,8 @@ fn the_numbers_of_an_end_stand_where_the_header_says() {
 
 #[test]
 fn a_place_that_is_another_is_seen() {
-    let header = text("include/oam.h");
-    let source = text("crates/oam_numbers/src/lib.rt");
+    let header = text(&repository().join("include/oam.h"));
+    let source = text(&repository().join("crates/oam_numbers/src/lib.rt"));
     let changed = header.replace("OAM_NUMBER_OUI = 2", "OAM_NUMBER_OUI = 3");
     assert_eq!(misplaced(&changed, &source), ["OAM_NUMBER_OUI"]);
     let changed = source.replace("i.revision as u64", "i.state as u64");
@@ -176,7 +165,7 @@ fn a_place_that_is_another_is_seen() {
 
 #[test]
 fn a_state_and_a_frame_are_as_long_as_the_header_says() {
-    let header = text("include/oam.h");
+    let header = text(&repository().join("include/oam.h"));
     let named = named_in_header(&header);
     let packing = modules("oam_packing");
     let octets = named["OAM_STATE_OCTETS"];
@@ -206,7 +195,7 @@ fn a_part_that_grows_makes_the_state_longer() {
 
 #[test]
 fn the_version_is_raised_by_every_change_request() {
-    let header = text("include/oam.h");
+    let header = text(&repository().join("include/oam.h"));
     let named = named_in_header(&header);
     let folder = repository().join("docs/changes");
     let notes = fs::read_dir(&folder).expect("the notes of changes");

@@ -1,9 +1,10 @@
 -- The paper's moves, run until none applies, come to rest where `standsAt` says and nowhere else, whichever is taken first
 -- where two apply at once; and they do come to rest, for no more than four can follow one another.
 use Prim.Native.Nat.{ℕ, suc, _<_, _≤_}
-use mathlib.Core.Path.{_≡_, refl, sym, _∙_}
-use mathlib.Core.Bool.{Bool, true, false, cond, true≢false}
+use mathlib.Core.Path.{_≡_, refl}
+use mathlib.Core.Bool.{Bool, true, false, cond}
 use native.Mathlib.Omega.{arith}
+use Rattle.octets.proofs.Bools.{not-both}
 use Rattle.link_discovery.specs.declared.Discovery.{Discovery}
 use Rattle.link_discovery.specs.declared.Discovery.the-variants.{Fault, ActiveSendLocal, PassiveWait, SendLocalRemote, SendLocalRemoteOk, SendAny}
 use Rattle.link_discovery.specs.Standing.{standsAt}
@@ -17,10 +18,6 @@ borne true active true true false later k = (refl, k refl)
 borne true active true false complete later k = (refl, k refl)
 borne true true false satisfied complete later k = (refl, refl)
 borne true false false satisfied complete later k = (refl, refl)
-
--- no test both holds and fails
-not-both : {A : Type 0} {b : Bool} → b ≡ true → b ≡ false → A
-not-both t f = absurd (true≢false (sym t ∙ f))
 
 either-way : (P : Bool → Type 0) (b : Bool) → P true → P false → P b
 either-way P true t f = t

@@ -2,7 +2,7 @@
 use Prim.Native.Nat.{ℕ, zero, suc, _^_, _<_}
 use mathlib.Core.Path.{_≡_, refl}
 use mathlib.Core.List.{List, [], _∷_}
-use mathlib.Core.Bool.{Bool, true, false, _&&_, and-true}
+use mathlib.Core.Bool.{Bool, true, and-true}
 use borrow.Author.Tests.{lt-ltb}
 use lib.Dec.{ltb}
 use lib.ListN.{getD}
@@ -11,10 +11,6 @@ use Rattle.octets.specs.Octets.{fit}
 use Rattle.frame_body.specs.Information.{informationWidths, informationValues}
 use Rattle.octets.proofs.Bools.{and-l, and-r}
 use Rattle.link_end.specs.Ranges.{all}
-
-pub and-nested : (a b c : Bool) → ((a && b) && c) ≡ (a && (b && c))
-and-nested true b c = refl
-and-nested false b c = refl
 
 -- one of the tests that all hold
 pub all-at : (bs : List Bool) (n : ℕ) → all bs ≡ true → getD bs n true ≡ true

@@ -1,9 +1,8 @@
 use Prim.Native.Nat.{_^_}
 use native.Mathlib.Omega.{arith}
 use borrow.Author.Tests.{lt-ltb}
-use mathlib.Core.Bool.{and-true}
+use mathlib.Core.Bool.{and-assoc, and-true}
 use Rattle.link_end.specs.Ranges.{peerRanged, restRanged, ranged}
-use Rattle.link_end.proofs.Ranging.{and-nested}
 use borrow.Author.Needs.{needs}
 use Rattle.link_end.proofs.ranges.is_ranged.Statement.{statement}
 use Rattle.link_end.proofs.ranges.is_ranged.Tie as tie
@@ -21,7 +20,7 @@ returns c =
       lt-ltb (e .settings .vendor) (2 ^ 32) (omega (arith, g)),
       lt-ltb (e .own .revision) (2 ^ 16) (omega (arith, g)),
       lt-ltb (e .own .number) (2 ^ 16) (omega (arith, g)),
-      and-nested,
+      and-assoc,
       and-true,
     )
 
