@@ -1,8 +1,9 @@
 /*
- * Two ends of one link in one process. The office end is active and orders a loopback test, the box at
- * the far end is passive and loops. Each calls the machine as firmware does. In the place of the fibre
- * stands a queue for each direction, which carries one frame a tick. Printed is who sends what and where
- * the ends stand. The program returns 1 where something does not go as it must.
+ * Two ends of one link in one process. The office end is active, orders a loopback test and asks for
+ * counters; the box at the far end is passive, loops and answers. Each calls the machine as firmware
+ * does. In the place of the fibre stands a queue for each direction, which carries one frame a tick.
+ * Printed is who sends what and where the ends stand. The program returns 1 where something does not go
+ * as it must.
  */
 #include "oam.h"
 
@@ -34,6 +35,7 @@ struct end {
     struct frame queue[QUEUE]; /* on the way from this end */
     size_t first, count;
     size_t events_heard;
+    size_t values_heard;
 };
 
 static void must(bool holds, const char *what)
@@ -59,7 +61,8 @@ static void print_end(const struct end *e)
 
 static void print_frame(const struct end *e, const struct frame *f)
 {
-    static const char *const codes[] = {"Information", "Event Notification", "", "", "Loopback Control"};
+    static const char *const codes[] = {"Information", "Event Notification", "Variable Request", "Variable Response",
+                                        "Loopback Control"};
     uint64_t h[OAM_HEADER_NUMBERS];
     must(oam_read(f->octets, f->length, h, OAM_HEADER_NUMBERS) == OAM_ACCEPTED, "a written frame can be read");
     must(h[OAM_HEADER_CODE] <= OAM_CODE_LOOPBACK_CONTROL, "nothing organization specific is sent");
@@ -101,6 +104,41 @@ static void print_events(struct end *e, const struct frame *f)
     }
 }
 
+/* A Variable Request is answered by the counters that are held: branch 7, leaves 2 and 5, of four octets each. */
+static void answer(struct end *e, const struct frame *f)
+{
+    static const uint32_t attributes[2 * OAM_ATTRIBUTE_NUMBERS] = {0x070002, 4, 0x070005, 4};
+    static const uint8_t values[] = {0, 0, 1, 44, 0, 0, 2, 88};
+    uint32_t asked[OAM_MOST_ASKED];
+    uint64_t read = oam_descriptors(f->octets, f->length, asked, OAM_MOST_ASKED);
+    if (oam_answer(read) == OAM_ACCEPTED && oam_count(read) > 0) {
+        finish(e, oam_respond(attributes, 2 * OAM_ATTRIBUTE_NUMBERS, values, sizeof values, asked, oam_count(read),
+                              STATE_AND_OUT(e)));
+    }
+}
+
+/* What a Variable Response says, each container by its row. */
+static void print_values(struct end *e, const struct frame *f)
+{
+    uint64_t header[OAM_HEADER_NUMBERS], rows[3 * OAM_ROW_NUMBERS];
+    uint64_t outcome = oam_read_all(f->octets, f->length, 0, header, OAM_HEADER_NUMBERS, rows, 3 * OAM_ROW_NUMBERS);
+    must(oam_answer(outcome) == OAM_ACCEPTED, "a response can be read");
+    must(oam_count(outcome) <= 3, "what was asked has no more answers");
+    for (size_t row = 0; row < oam_count(outcome); row += 1) {
+        const uint64_t *container = &rows[row * OAM_ROW_NUMBERS + OAM_ROW_PART];
+        printf("  %-6s reads %06" PRIx64 ":", e->name, container[0]);
+        if (rows[row * OAM_ROW_NUMBERS + OAM_ROW_KIND] == OAM_PART_VALUE) {
+            for (size_t i = 0; i < container[2]; i += 1) {
+                printf(" %02x", f->octets[container[1] + i]);
+            }
+            e->values_heard += 1;
+        } else {
+            printf(" %s", container[1] == OAM_NOT_SUPPORTED ? "not supported" : "no value");
+        }
+        printf("\n");
+    }
+}
+
 /* The first frame on its way from one end, if there is one, reaches the other. */
 static void carry(struct end *from, struct end *to)
 {
@@ -113,6 +151,10 @@ static void carry(struct end *from, struct end *to)
         finish(to, outcome);
         if (oam_shown(outcome) == OAM_SHOWN_EVENTS) {
             print_events(to, f);
+        } else if (header[OAM_HEADER_CODE] == OAM_CODE_VARIABLE_REQUEST) {
+            answer(to, f);
+        } else if (header[OAM_HEADER_CODE] == OAM_CODE_VARIABLE_RESPONSE) {
+            print_values(to, f);
         }
     }
 }
@@ -122,6 +164,15 @@ static bool is(const struct end *e, uint64_t role)
     return number_of(e, OAM_NUMBER_DISCOVERY) == OAM_DISCOVERY_SEND_ANY && number_of(e, OAM_NUMBER_ROLE) == role;
 }
 
+/* One tick of both ends, and what reaches them after it. */
+static void tick_both(struct end *office, struct end *box)
+{
+    finish(office, oam_tick(STATE_AND_OUT(office)));
+    finish(box, oam_tick(STATE_AND_OUT(box)));
+    carry(office, box);
+    carry(box, office);
+}
+
 /* Ticks, one at least, until both ends are in SEND_ANY with these roles. */
 static void tick_until(struct end *office, uint64_t office_role, struct end *box, uint64_t box_role)
 {
@@ -129,10 +180,7 @@ static void tick_until(struct end *office, uint64_t office_role, struct end *box
     do {
         must(ticks < MOST_TICKS, "the ends get there in thirty ticks");
         ticks += 1;
-        finish(office, oam_tick(STATE_AND_OUT(office)));
-        finish(box, oam_tick(STATE_AND_OUT(box)));
-        carry(office, box);
-        carry(box, office);
+        tick_both(office, box);
     } while (!is(office, office_role) || !is(box, box_role));
     printf("after %u tick%s\n", ticks, ticks == 1 ? "" : "s");
     print_end(office);
@@ -159,7 +207,8 @@ int main(void)
     must(oam_fresh(both_can | OAM_CONFIGURATION_ACTIVE, 1518, 0x00CAFE, 1, 0x020000000001,
                    OAM_CONFIGURATION_LOOPBACK, office.state, sizeof office.state) == OAM_ACCEPTED,
          "the office's settings are in range");
-    must(oam_fresh(both_can, 1518, 0x00CAFE, 2, 0x020000000002, 0, box.state, sizeof box.state) == OAM_ACCEPTED,
+    must(oam_fresh(both_can | OAM_CONFIGURATION_VARIABLE_RETRIEVAL, 1518, 0x00CAFE, 2, 0x020000000002, 0, box.state,
+                   sizeof box.state) == OAM_ACCEPTED,
          "the box's settings are in range");
 
     printf("the link comes up\n");
@@ -186,5 +235,13 @@ int main(void)
     notify(&box);
     tick_until(&office, OAM_ROLE_IDLE, &box, OAM_ROLE_IDLE);
     must(office.events_heard == 1, "the office hears of the event once");
+
+    printf("the desk reads counters\n");
+    const uint32_t asked[] = {0x070002, 0x070008, 0x070005};
+    finish(&office, oam_request(asked, 3, STATE_AND_OUT(&office)));
+    for (unsigned ticks = 0; office.values_heard < 2; ticks += 1) {
+        must(ticks < MOST_TICKS, "the office reads the two counters that the box holds");
+        tick_both(&office, &box);
+    }
     return 0;
 }

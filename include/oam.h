@@ -20,7 +20,7 @@
  * The version of what stands here and of a state's octets: it grows with every change of either. A state is
  * good for the build that made it. After an update make a fresh end (oam_fresh) and report the link.
  */
-#define OAM_VERSION 1
+#define OAM_VERSION 2
 
 #include <stddef.h>
 #include <stdint.h>
@@ -53,7 +53,7 @@ enum {
     OAM_EXCEEDS_MAXIMUM = 12,   /* frame, plus 4, exceeds the smaller of the two maximum sizes */
     OAM_TEN_FRAMES_WRITTEN = 13, /* ten frames already written in this timer second */
     OAM_NOT_A_LINE = 14,        /* text line is not in its stated form */
-    OAM_FORBIDDEN = 15          /* role, mode or peer's capability forbids */
+    OAM_FORBIDDEN = 15          /* role, mode, own or peer's capability forbids */
 };
 
 /* Lengths in octets. */
@@ -69,14 +69,17 @@ enum {
 /* Counts of numbers in a slice. */
 #define OAM_INFORMATION_NUMBERS 7 /* an Information TLV */
 #define OAM_EVENT_NUMBERS 7       /* an event */
+#define OAM_ATTRIBUTE_NUMBERS 2   /* an attribute: its descriptor and its width */
 #define OAM_HEADER_NUMBERS 4      /* what oam_read, oam_read_all and oam_receive store of a header */
 #define OAM_ROW_NUMBERS 9         /* a row, which oam_read_all stores of each part */
 #define OAM_LINE_NUMBERS 9        /* what oam_log_read stores */
 #define OAM_SHOWN_NUMBERS 28      /* what oam_show stores */
 
-/* The most of a thing in one frame. */
+/* The most of a thing in one frame or one call. */
 #define OAM_MOST_EVENTS 4
-#define OAM_MOST_DESCRIPTORS 32
+#define OAM_MOST_DESCRIPTORS 32 /* that one Variable Request is written with */
+#define OAM_MOST_ASKED 498      /* that one call answers, and that one read frame has */
+#define OAM_MOST_ATTRIBUTES 64
 #define OAM_LEAST_ORGANIZATION_OCTETS 39
 #define OAM_MOST_ORGANIZATION_OCTETS 1493
 
@@ -107,6 +110,9 @@ enum {
     OAM_CONFIGURATION_LINK_EVENTS = 0x08,
     OAM_CONFIGURATION_VARIABLE_RETRIEVAL = 0x10
 };
+
+/* The width octet of a container that says that an attribute is not supported. */
+#define OAM_NOT_SUPPORTED 0xA1
 
 /* The command of a Loopback Control frame. */
 enum { OAM_COMMAND_ENABLE = 1, OAM_COMMAND_DISABLE = 2 };
@@ -231,7 +237,8 @@ enum {
 /*
  * An outcome is what each function that writes returns: the answer in bits 0 to 7, the length written
  * in bits 8 to 39. A call of the machine adds the State octet of the end after the call in bits 40 to
- * 47, and what is shown in bits 48 and 49. The outcome of oam_read_all has a count in the length's place.
+ * 47, and what is shown in bits 48 and 49. The outcome of oam_read_all and that of oam_descriptors have a count
+ * in the length's place.
  */
 static inline uint8_t oam_answer(uint64_t outcome)
 {
@@ -244,7 +251,10 @@ static inline size_t oam_length(uint64_t outcome)
     return (size_t)((outcome >> 8) & 0xFFFFFFFF);
 }
 
-/* The parts of the frame that oam_read_all has read, stored or not. */
+/*
+ * The parts of the frame that oam_read_all has read, stored or not; the descriptors that oam_descriptors has
+ * stored.
+ */
 static inline size_t oam_count(uint64_t outcome)
 {
     return oam_length(outcome);
@@ -318,10 +328,10 @@ uint64_t oam_receive(const uint8_t *frame, size_t frame_len, uint64_t *header, s
                      size_t state_len, uint8_t *out, size_t out_len);
 
 /*
- * The five requests. Each writes its own frame, and no Information frame: the next tick, report or
+ * The six requests. Each writes its own frame, and no Information frame: the next tick, report or
  * received frame writes one that is owed. Each tests, in this order, OAM_OUT_OF_RANGE,
  * OAM_NOT_IN_SEND_ANY, OAM_FORBIDDEN, OAM_EXCEEDS_MAXIMUM, OAM_TEN_FRAMES_WRITTEN and OAM_SHORT_OUTPUT,
- * and returns an outcome.
+ * and returns an outcome. oam_respond tests the same without OAM_EXCEEDS_MAXIMUM.
  */
 
 /*
@@ -355,6 +365,30 @@ uint64_t oam_organization(uint32_t oui, const uint8_t *octets, size_t octets_len
                           uint8_t *out, size_t out_len);
 
 /*
+ * Answers variables that the peer asks for: writes a Variable Response frame with one container for each
+ * of 1 to 498 descriptors, in the order asked. The descriptors are those of the received Variable Request,
+ * which oam_descriptors stores; no request needs to have come. A request without descriptors has no answer.
+ *
+ * The attributes that are held, 0 to 64 of them, are two numbers each: the descriptor (branch 1 to 255
+ * above the leaf's sixteen bits), and the width of the value, 1 to 128 octets. The values stand one after
+ * another in the same order. Neither slice is written to. A container has the value of its attribute, or
+ * OAM_NOT_SUPPORTED where none is held. A descriptor that is asked twice is answered twice.
+ *
+ * From the first container that does not fit, it and the rest are left off, so that the frame, plus 4, is
+ * within the smaller of the two maximum sizes. To go on, count the containers of the written frame
+ * (oam_read_all) and call again with the descriptors from there. Where the first does not fit the frame has
+ * none, and going on means to pass that descriptor over: its value is too long for this link.
+ *
+ * Out of range are another count of descriptors or attributes, an odd count of attribute numbers, a
+ * descriptor of branch 0 or above 24 bits, another width, one descriptor held twice, and values that are
+ * not as many octets as the widths say. Forbidden to an end whose own configuration has no
+ * OAM_CONFIGURATION_VARIABLE_RETRIEVAL, and to an active end whose peer is passive.
+ */
+uint64_t oam_respond(const uint32_t *attributes, size_t attributes_len, const uint8_t *values, size_t values_len,
+                     const uint32_t *descriptors, size_t descriptors_len, uint8_t *state, size_t state_len,
+                     uint8_t *out, size_t out_len);
+
+/*
  * Shows a state as OAM_SHOWN_NUMBERS numbers and changes nothing of it. Returns OAM_ACCEPTED with the
  * numbers stored, OAM_OUT_OF_RANGE for what is no state, then OAM_SHORT_OUTPUT for fewer numbers.
  */
@@ -382,6 +416,14 @@ uint64_t oam_write_notification(uint64_t source, uint16_t flags, uint16_t number
 uint64_t oam_write_request(uint64_t source, uint16_t flags, const uint32_t *descriptors, size_t descriptors_len,
                            uint8_t *out, size_t out_len);
 
+/*
+ * Writes a Variable Response frame of containers as they stand in a frame: the octets of one that was read,
+ * from octet 18 to the end of its last container, or no octet for none. Out of range are more than 1,496
+ * octets, a container that is broken, and a branch 0, which would end them before their last octet.
+ */
+uint64_t oam_write_response(uint64_t source, uint16_t flags, const uint8_t *containers, size_t containers_len,
+                            uint8_t *out, size_t out_len);
+
 /* Writes a Loopback Control frame with OAM_COMMAND_ENABLE or OAM_COMMAND_DISABLE. */
 uint64_t oam_write_loopback(uint64_t source, uint16_t flags, uint8_t command, uint8_t *out, size_t out_len);
 
@@ -406,6 +448,14 @@ uint64_t oam_read(const uint8_t *frame, size_t frame_len, uint64_t *header, size
  */
 uint64_t oam_read_all(const uint8_t *frame, size_t frame_len, size_t first, uint64_t *header, size_t header_len,
                       uint64_t *rows, size_t rows_len);
+
+/*
+ * Reads all descriptors of a Variable Request frame. Stores them in order, each the branch above the leaf's
+ * sixteen bits; OAM_MOST_ASKED numbers are always enough. Returns an outcome with their count: accepted, a
+ * refusal 1 to 8 of the frame, OAM_OUT_OF_RANGE for a frame of another code, then OAM_SHORT_OUTPUT for fewer
+ * numbers than the frame has descriptors. A Variable Request without descriptors gives count 0.
+ */
+uint64_t oam_descriptors(const uint8_t *frame, size_t frame_len, uint32_t *descriptors, size_t descriptors_len);
 
 /*
  * The sent-event log. Writes the line of one event of seven numbers that was sent at a position, 1 to 4,

@@ -13,11 +13,11 @@ room="$PWD/target/definitions"
 rm -rf "$room"
 trap 'rm -rf "$room"' EXIT
 mkdir -p "$room/crates" "$room/target/rlib" "$room/target/stamp" "$room/target/log"
-for crate in octets frame_tlvs frame_body frame frame_writer theorems_frame link_limit link_peer link_loopback link_discovery link_end link theorems_reach theorems_pair; do
+for crate in octets frame_tlvs frame_body frame frame_variables frame_writer theorems_frame link_limit link_peer link_loopback link_discovery link_end link theorems_reach theorems_pair; do
   cp -r "crates/$crate" "$room/crates/"
   grep "^$crate:" crates.txt >> "$room/crates.txt"
 done
-for crate in octets frame_tlvs frame_body frame frame_writer theorems_frame; do
+for crate in octets frame_tlvs frame_body frame frame_variables frame_writer theorems_frame; do
   cp -r "target/rlib/$crate.rlib" "$room/target/rlib/"
   cp "target/stamp/$crate" "$room/target/stamp/"
   cp "target/log/$crate".* "$room/target/log/"

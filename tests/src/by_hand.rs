@@ -183,6 +183,37 @@ pub fn read_all(frame: &[u8], first: usize, header: &mut [u64], rows: &mut [u64]
     (rows.count as u64) << 8
 }
 
+/// As `Library::descriptors`. They are counted first only where a list that fills
+/// the frame would not have room: then nothing may be stored before it is known
+/// that this one has.
+pub fn descriptors(frame: &[u8], descriptors: &mut [u32]) -> u64 {
+    let answer = answer(frame);
+    if answer != answer::ACCEPTED {
+        return answer.into();
+    }
+    if frame[17] != code::REQUEST {
+        return answer::VALUES.into();
+    }
+    let parts = frame[BODY..].chunks_exact(3);
+    if descriptors.len() < parts.len() {
+        let count = parts.take_while(|part| part[0] != 0).count();
+        if descriptors.len() < count {
+            return answer::OUTPUT.into();
+        }
+    }
+    // Each is taken with the octet before it, which is then masked out.
+    let (mut rest, mut count) = (&frame[BODY - 1..], 0);
+    for place in descriptors {
+        let Some(&four @ [_, 1..=0xFF, _, _]) = rest.first_chunk() else {
+            break;
+        };
+        *place = u32::from_be_bytes(four) & 0xFF_FFFF;
+        rest = &rest[3..];
+        count += 1;
+    }
+    count << 8
+}
+
 /// The header of an accepted frame.
 #[inline(always)]
 fn store_header(frame: &[u8], header: &mut [u64; HEADER]) {

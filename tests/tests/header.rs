@@ -1,8 +1,10 @@
 //! The archive's header and the Rattle sources, held together: the octets of a state, the places of the numbers that `oam_show`
-//! stores, the lengths of frames; and the header's version, which every change request raises.
+//! stores, the lengths of frames, the most of what a response holds; and the header's version, which every change request
+//! raises.
 
 mod sources;
 
+use oam_tests::paper;
 use sources::{repository, text};
 use std::collections::BTreeMap;
 use std::fs;
@@ -20,12 +22,20 @@ fn named_in_header(header: &str) -> BTreeMap<&str, u64> {
                 .collect::<Vec<_>>(),
         };
         for (name, number) in pairs {
-            if let Ok(number) = number.trim().parse() {
+            if let Some(number) = number_in(number.trim()) {
                 named.insert(name.trim(), number);
             }
         }
     }
     named
+}
+
+/// A number in decimal or, behind `0x`, in hexadecimal digits.
+fn number_in(text: &str) -> Option<u64> {
+    match text.strip_prefix("0x") {
+        Some(digits) => u64::from_str_radix(digits, 16).ok(),
+        None => text.parse().ok(),
+    }
 }
 
 /// The constants of a Rattle source, each a sum of numbers and of names: its own, or those of another module as `module::NAME`.
@@ -35,7 +45,8 @@ fn constants(source: &str) -> BTreeMap<String, String> {
         let Some((_, rest)) = line.split_once("const ") else {
             continue;
         };
-        let Some((name, rest)) = rest.split_once(": usize = ") else {
+        let parted = rest.split_once(": usize = ").or(rest.split_once(": u8 = "));
+        let Some((name, rest)) = parted else {
             continue;
         };
         constants.insert(name.to_string(), rest.trim_end_matches(';').to_string());
@@ -49,8 +60,8 @@ fn number_of(modules: &BTreeMap<String, String>, module: &str, name: &str) -> u6
         .remove(name)
         .unwrap_or_else(|| panic!("no constant {name} in the module `{module}`"));
     let terms = sum.split('+').map(str::trim);
-    let values = terms.map(|term| match (term.parse(), term.split_once("::")) {
-        (Ok(number), _) => number,
+    let values = terms.map(|term| match (number_in(term), term.split_once("::")) {
+        (Some(number), _) => number,
         (_, Some((other, name))) => number_of(modules, other, name),
         (_, None) => number_of(modules, module, term),
     });
@@ -182,6 +193,46 @@ fn a_state_and_a_frame_are_as_long_as_the_header_says() {
     for (name, constant) in frames {
         assert_eq!(named[name], number_of(&layout, "", constant), "{name}");
     }
+}
+
+/// In the header, in the sources of `frame_variables`, and in the independent implementation.
+#[test]
+fn a_response_holds_what_the_header_says() {
+    let header = text(&repository().join("include/oam.h"));
+    let named = named_in_header(&header);
+    let variables = modules("frame_variables");
+    for (name, constant, own) in [
+        (
+            "OAM_MOST_ATTRIBUTES",
+            "MOST_ATTRIBUTES",
+            paper::MOST_ATTRIBUTES as u64,
+        ),
+        ("OAM_MOST_ASKED", "MOST_ASKED", paper::MOST_ASKED as u64),
+        (
+            "OAM_NOT_SUPPORTED",
+            "NOT_SUPPORTED",
+            paper::NOT_SUPPORTED.into(),
+        ),
+    ] {
+        assert_eq!(named.get(name), Some(&own), "{name}");
+        assert_eq!(number_of(&variables, "", constant), own, "{constant}");
+    }
+}
+
+#[test]
+fn numbers_are_read_in_decimal_and_in_hexadecimal_digits() {
+    let header =
+        "#define A 64 /* of them */\nenum { B = 0xA1, C = 7 };\n    D = 0x0060\n#define E f(1)\n";
+    let named = named_in_header(header);
+    assert_eq!(
+        named,
+        BTreeMap::from([("A", 64), ("B", 0xA1), ("C", 7), ("D", 0x60)])
+    );
+    let source = "pub const A: u8 = 0xa1;\npub const B: usize = 60 + A;\nconst C: u16 = 1;\n";
+    let modules = BTreeMap::from([(String::new(), source.to_string())]);
+    assert_eq!(number_of(&modules, "", "A"), 0xA1);
+    assert_eq!(number_of(&modules, "", "B"), 60 + 0xA1);
+    assert!(!constants(source).contains_key("C"));
 }
 
 #[test]

@@ -1,5 +1,5 @@
 -- The lengths of what is written.
-use Prim.Native.Nat.{ℕ, _+_, _*_, _<_, _≤_, max}
+use Prim.Native.Nat.{ℕ, _+_, _*_, _%_, _<_, _≤_, max}
 use mathlib.Core.Path.{_≡_, refl, sym, ap, _∙_}
 use mathlib.Core.List.{List, [], _∷_, _++_}
 use mathlib.Core.Bool.{true}
@@ -16,9 +16,12 @@ use Rattle.frame.specs.Frame.{Body, information, notification, request, respons
 use Rattle.frame_body.specs.declared.Information.{Information}
 use Rattle.frame_tlvs.specs.declared.Event.{Event}
 use Rattle.frame_tlvs.proofs.Rows.{row-of}
-use Rattle.frame_writer.specs.Encode.{headerOctets, informationOctets, partOctets, eventValues, eventOctets, joined, bodyOctets, padded, encode}
-use Rattle.frame_writer.specs.Plain.{every, plainEvent, plainOrganization, plainBody, plain, eventsLength, bodyLength}
-use Rattle.octets.proofs.Bools.{never, and-l, and-r}
+use Rattle.frame_body.specs.Variables.{Container, value, indication}
+use Rattle.octets.specs.Tests.{every}
+use Rattle.frame_variables.specs.Answers.{containerLength, containersLength}
+use Rattle.frame_writer.specs.Encode.{headerOctets, informationOctets, partOctets, eventValues, eventOctets, containerOctets, joined, bodyOctets, padded, encode}
+use Rattle.frame_writer.specs.Plain.{plainEvent, plainOrganization, plainBody, plain, eventsLength, bodyLength}
+use Rattle.octets.proofs.Bools.{and-l, and-r}
 use Rattle.octets.proofs.Numbers.{length-oct, length-octs}
 
 -- parts that are all of one length
@@ -95,6 +98,16 @@ events-short (e ∷ es) h =
     let b : every plainEvent es ≡ true = search and-r in
     omega (arith, tabled e a .short, events-short es b)
 
+-- ---- containers
+
+pub length-container : (c : Container) → length (containerOctets c) ≡ containerLength c
+length-container (value d x) = omega (arith, length-append (oct 3 d) (oct 1 (length x % 128) ++ x), length-oct 3 d, length-append (oct 1 (length x % 128)) x, length-oct 1 (length x % 128))
+length-container (indication d octet) = omega (arith, length-append (oct 3 d) (oct 1 octet), length-oct 3 d, length-oct 1 octet)
+
+pub length-containers : (cs : List Container) → length (joined containerOctets cs) ≡ containersLength cs
+length-containers [] = refl
+length-containers (c ∷ cs) = omega (arith, length-append (containerOctets c) (joined containerOctets cs), length-container c, length-containers cs)
+
 -- ---- bodies and frames
 
 -- a body in plain form has the length that `bodyLength` tells
@@ -104,7 +117,7 @@ length-body (notification n es) h =
     let all : every plainEvent es ≡ true = search and-r in
     omega (arith, length-append (oct 2 n) (joined eventOctets es), length-oct 2 n, length-events es all)
 length-body (request ds) h = length-joined (oct 3) 3 (length-oct 3) ds
-length-body (response cs) h = never h
+length-body (response cs) h = length-containers cs
 length-body (loopback n) h = refl
 length-body (organization oui x) h = omega (arith, length-append (oct 3 oui) x, length-oct 3 oui)
 

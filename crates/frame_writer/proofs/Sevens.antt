@@ -14,7 +14,8 @@ use Rattle.frame_tlvs.specs.Tlvs.{row, eventWidths, eventLength}
 use Rattle.frame_tlvs.specs.declared.Event.{Event}
 use Rattle.frame.specs.Frame.{notification}
 use Rattle.frame_writer.specs.Encode.{eventValues, eventOctets, joined}
-use Rattle.frame_writer.specs.Plain.{between, every, plainEvent, plainEvents, eventsLength, plainBody}
+use Rattle.octets.specs.Tests.{between, every}
+use Rattle.frame_writer.specs.Plain.{plainEvent, plainEvents, eventsLength, plainBody}
 use Rattle.frame_writer.specs.Writing.{eventFrom, plainSeven, eventsFrom, eventsOf, eventCount, measuredEvents, measuredSeven}
 use Rattle.octets.proofs.Bools.{never, and-l, and-r}
 use Rattle.octets.proofs.Stores.{sets-append}

@@ -1,7 +1,7 @@
--- One turn of each loop that stores, and the stores of a TLV.
+-- One turn of each loop that stores, and parts that are stored one after another.
 use Prim.Native.Nat.{ℕ, zero, suc, _+_, _-_, _/_, _%_, _<_}
 use mathlib.Core.Path.{_≡_, sym, _∙_}
-use mathlib.Core.List.{List, _∷_, _++_}
+use mathlib.Core.List.{List, _++_}
 use native.Mathlib.Numerals.{add-one}
 use native.Mathlib.Omega.{arith}
 use lib.ListN.{length, getD, drop, set, replicate}
@@ -34,9 +34,7 @@ next-field l at i ws vs h k =
     rw (add-one i, drop-cons ws i 0 h, drop-cons vs i 0 k)
     (sets-append l at (oct w v) (octs (drop (suc i) ws) (drop (suc i) vs)) ∙ rw (length-oct w v))
 
--- what `put_tlv` stores: a type, a length and fields, one after another
-pub tlv-stored : (l : List ℕ) (at t n : ℕ) (ws vs : List ℕ)
-    → sets (sets (sets l at (oct 1 t)) (at + 1) (oct 1 n)) (at + 2) (octs ws vs) ≡ sets l at (octs (1 ∷ 1 ∷ ws) (t ∷ n ∷ vs))
-tlv-stored l at t n ws vs =
-    let e : at + 1 + 1 ≡ at + 2 = omega arith in
-    sym (sets-append l at (oct 1 t) (oct 1 n ++ octs ws vs) ∙ sets-append (sets l at (oct 1 t)) (at + 1) (oct 1 n) (octs ws vs) ∙ rw e)
+-- three parts stored one after another are stored as one
+pub three-stored : (l : List ℕ) (at : ℕ) (x y z : List ℕ) {i j : ℕ} → at + length x ≡ i → at + length x + length y ≡ j
+    → sets (sets (sets l at x) i y) j z ≡ sets l at (x ++ (y ++ z))
+three-stored l at x y z e f = sym (sets-append l at x (y ++ z) ∙ sets-append (sets l at x) (at + length x) y z ∙ rw (f, e))

@@ -13,10 +13,11 @@ use Rattle.frame_body.specs.declared.Held.{Held}
 use Rattle.frame_body.specs.declared.Held.the-variants.{Nothing, Is}
 use Rattle.frame_writer.specs.Encode.{informationOctets, partOctets, heldOctets, bodyOctets, encode}
 use Rattle.frame_writer.specs.Plain.{plainHeader, plainBody, plain, sized}
-use Rattle.frame_writer.specs.Writing.{writes, written, Writing, partsFrom}
+use Rattle.frame_writer.specs.Writing.{writes, written, Writing, WritingFormed, partsFrom}
 use Rattle.frame_writer.specs.declared.Written.{Written}
 use Rattle.frame_writer.specs.declared.Written.the-variants.{Refused, Wrote}
 use Rattle.frame_writer.proofs.Lengths.{length-joined, length-header, length-part, plain-body, endOf, header, unpadded, length-unpadded, length-encode}
+use Rattle.octets.proofs.Bools.{whether, and-r}
 use Rattle.octets.proofs.Stores.{sets-append}
 
 -- the header, the body and the zeros are the frame
@@ -63,6 +64,23 @@ module _ (m : Message) (d : List ℕ) where
     put-all e l h b x =
         let s = le-ltb (length d) (length (encode m)) (omega (arith, long)) in
         record { answers = x .0 ∙ rw (p, s) (ap Wrote (rw e (sym long))); output = x .1 ∙ rw (p, s, e, b, h) (stored m d p) }
+
+-- ---- a writer that is handed what may have no form at all, by what it was tested for
+
+module _ (m : Message) (d : List ℕ) {formed body r : Bool} (p : formed ≡ true → body ≡ plainBody (m .body)) (h : r ≡ (plainHeader (m .source) (m .flags) && body)) where
+  -- refused, whether it has no form or no plain one
+  pub formed-10 : r ≡ false → WritingFormed formed m d (Refused 10) d
+  formed-10 k =
+      whether formed
+      (λ t. let w = refused-10 m d (plain-told m (p t) h k) in record { answers = rw t (w .answers); output = rw t (w .output) })
+      (λ f. record { answers = rw f; output = rw f })
+
+  -- else it has a plain form, and is written as others are
+  pub formed-plain : (body ≡ true → formed ≡ true) → r ≡ true → {a : Written} {d′ : List ℕ} → (formed ≡ true → plain m ≡ true → Writing m d a d′) → WritingFormed formed m d a d′
+  formed-plain q k write =
+      let t = q (and-r (plainHeader (m .source) (m .flags)) body (sym h ∙ k)) in
+      let w = write t (plain-told m (p t) h k) in
+      record { answers = rw t (w .answers); output = rw t (w .output) }
 
 -- ---- the body of an Information frame: the Local, then the Remote
 

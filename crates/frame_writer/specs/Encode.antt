@@ -1,9 +1,10 @@
 -- The frame of a message.
-use Prim.Native.Nat.{ℕ, _-_}
+use Prim.Native.Nat.{ℕ, _-_, _%_}
 use mathlib.Core.List.{List, [], _∷_, _++_}
 use lib.ListN.{length, replicate}
 use Rattle.frame_tlvs.specs.Tlvs.{row, eventLength}
 use Rattle.frame_body.specs.Information.{InformationPart, local, remote, informationWidths, informationValues}
+use Rattle.frame_body.specs.Variables.{Container, value, indication}
 use Rattle.frame.specs.Frame.{Body, information, notification, request, response, loopback, organization, Message, codeOf}
 use Rattle.frame_body.specs.declared.Information.{Information}
 use Rattle.frame_tlvs.specs.declared.Event.{Event}
@@ -42,17 +43,22 @@ eventValues e = e .timestamp ∷ e .window ∷ e .threshold ∷ e .errors ∷ e 
 unfoldable pub eventOctets : Event → List ℕ
 eventOctets e = octs (1 ∷ 1 ∷ row (e .kind)) (e .kind ∷ eventLength (e .kind) ∷ eventValues e)
 
+-- "Container: descriptor, width 1, value. Width 0 is 128 octets, 1 to 127 itself; with bit 7 set it is an indication without value."
+abbrev pub containerOctets : Container → List ℕ
+containerOctets (value d x) = oct 3 d ++ (oct 1 (length x % 128) ++ x)
+containerOctets (indication d octet) = oct 3 d ++ oct 1 octet
+
 -- the octets of parts one after another
 abbrev pub joined : {P : Type 0} → (P → List ℕ) → List P → List ℕ
 joined octets [] = []
 joined octets (p ∷ ps) = octets p ++ joined octets ps
 
--- The body. "Response bodies are read only and have no plain form": nothing is ever written of one.
+-- the body
 abbrev pub bodyOctets : Body → List ℕ
 bodyOctets (information ps) = joined partOctets ps
 bodyOctets (notification n es) = oct 2 n ++ joined eventOctets es
 bodyOctets (request ds) = joined (oct 3) ds
-bodyOctets (response cs) = []
+bodyOctets (response cs) = joined containerOctets cs
 bodyOctets (loopback n) = oct 1 n
 bodyOctets (organization oui x) = oct 3 oui ++ x
 

@@ -2,3 +2,4 @@
 pub mod Encode
 pub mod Plain
 pub mod Writing
+pub mod Responses

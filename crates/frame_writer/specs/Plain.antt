@@ -1,26 +1,25 @@
 -- The plain form of a message, and the octets that it takes. (That of a frame, by its octets, is in `theorems_frame`.)
-use Prim.Native.Nat.{ℕ, _+_, _*_, _^_, max}
+use Prim.Native.Nat.{ℕ, _+_, _-_, _*_, _^_, max}
 use mathlib.Core.List.{List, [], _∷_}
 use mathlib.Core.Bool.{Bool, true, false, cond, not, _&&_, _||_}
 use lib.ListN.{length}
 use lib.Dec.{ltb, leb, eqb}
 use Rattle.frame.specs.Flags.{flagsOf}
 use Rattle.frame_tlvs.specs.Tlvs.{row, eventLength}
+use Rattle.frame_tlvs.specs.Walk.{Walk, ends, breaks, over, part}
 use Rattle.frame_body.specs.Information.{InformationPart, local, remote, informationWidths, informationValues}
+use Rattle.frame_body.specs.Variables.{Container, value, indication}
 use Rattle.frame.specs.Frame.{Body, information, notification, request, response, loopback, organization, Message}
 use Rattle.frame_body.specs.declared.Information.{Information}
 use Rattle.frame_tlvs.specs.declared.Event.{Event}
 use Rattle.octets.specs.Octets.{fit}
-use Rattle.octets.specs.Layout.{shortestFrame, bodyStart}
+use Rattle.octets.specs.Layout.{shortestFrame, longestFrame, bodyStart}
+use Rattle.frame_variables.specs.Descriptors.{plainDescriptor, plainDescriptors}
+use Rattle.frame_variables.specs.Attributes.{mostWidth}
+use Rattle.frame_variables.specs.Answers.{containersLength}
 use Rattle.frame_writer.specs.Encode.{eventValues}
-
--- from the least to the most
-abbrev pub between : ℕ → ℕ → ℕ → Bool
-between least most n = leb least n && leb n most
-
-abbrev pub every : {P : Type 0} → (P → Bool) → List P → Bool
-every test [] = true
-every test (p ∷ ps) = test p && every test ps
+-- the event log has these two from here
+pub use Rattle.octets.specs.Tests.{between, every}
 
 -- "zero in ignored bits, no flag field 3"
 unfoldable pub plainFlags : ℕ → Bool
@@ -45,10 +44,6 @@ plainParts (local i ∷ remote j ∷ p ∷ ps) = false
 unfoldable pub plainEvent : Event → Bool
 plainEvent e = between 1 4 (e .kind) && fit (row (e .kind)) (eventValues e)
 
--- "a descriptor of branch 0": a branch from 1 on stands above the leaf's sixteen bits
-abbrev pub plainDescriptor : ℕ → Bool
-plainDescriptor d = leb 65536 d && ltb d (256 ^ 3)
-
 -- "1 to 4 events; 1 to 32 descriptors"
 abbrev pub mostEvents : ℕ
 mostEvents = 4
@@ -59,8 +54,17 @@ mostDescriptors = 32
 abbrev pub plainEvents : List Event → Bool
 plainEvents es = between 1 mostEvents (length es) && every plainEvent es
 
-abbrev pub plainDescriptors : List ℕ → Bool
-plainDescriptors ds = between 1 mostDescriptors (length ds) && every plainDescriptor ds
+-- "Demand 2 covers code 03 in writing from now on." A container has a value of 1 to 128 octets, or a width octet with bit 7 set.
+abbrev pub plainContainer : Container → Bool
+plainContainer (value d x) = plainDescriptor d && between 1 mostWidth (length x)
+plainContainer (indication d octet) = plainDescriptor d && between 128 255 octet
+
+-- none or more, as many as the longest frame has room for after its header
+abbrev pub mostContainersOctets : ℕ
+mostContainersOctets = longestFrame - bodyStart
+
+abbrev pub plainContainers : List Container → Bool
+plainContainers cs = every plainContainer cs && leb (containersLength cs) mostContainersOctets
 
 -- "Code FE is written with 39 to 1,493 octets of data"
 abbrev pub plainOrganization : ℕ → ℕ → Bool
@@ -69,8 +73,8 @@ plainOrganization oui octets = ltb oui (256 ^ 3) && between 39 1493 octets
 abbrev pub plainBody : Body → Bool
 plainBody (information ps) = plainParts ps
 plainBody (notification n es) = ltb n (256 ^ 2) && plainEvents es
-plainBody (request ds) = plainDescriptors ds
-plainBody (response cs) = false
+plainBody (request ds) = plainDescriptors mostDescriptors ds
+plainBody (response cs) = plainContainers cs
 plainBody (loopback n) = eqb n 1 || eqb n 2
 plainBody (organization oui x) = plainOrganization oui (length x)
 
@@ -79,6 +83,13 @@ plainHeader source flags = ltb source (256 ^ 6) && plainFlags flags
 
 unfoldable pub plain : Message → Bool
 plain m = plainHeader (m .source) (m .flags) && plainBody (m .body)
+
+-- "no unknown TLV": a walk that skips nothing
+abbrev pub noneSkipped : {P : Type 0} → Walk P → Bool
+noneSkipped ends = true
+noneSkipped breaks = true
+noneSkipped (over w) = false
+noneSkipped (part p w) = noneSkipped w
 
 -- ---- lengths
 
@@ -91,7 +102,7 @@ abbrev pub bodyLength : Body → ℕ
 bodyLength (information ps) = 16 * length ps
 bodyLength (notification n es) = 2 + eventsLength es
 bodyLength (request ds) = 3 * length ds
-bodyLength (response cs) = 0
+bodyLength (response cs) = containersLength cs
 bodyLength (loopback n) = 1
 bodyLength (organization oui x) = 3 + length x
 

@@ -18,7 +18,8 @@ use Rattle.frame_body.specs.declared.Held.the-variants.{Nothing, Is}
 use Rattle.frame_writer.specs.declared.Written.{Written}
 use Rattle.frame_writer.specs.declared.Written.the-variants.{Refused, Wrote}
 use Rattle.frame_writer.specs.Encode.{encode}
-use Rattle.frame_writer.specs.Plain.{between, plainInformation, plainEvent, mostEvents, plainEvents, eventsLength, plain}
+use Rattle.octets.specs.Tests.{between}
+use Rattle.frame_writer.specs.Plain.{plainInformation, plainEvent, mostEvents, plainEvents, eventsLength, plain}
 
 -- "The frame writer by itself (10 for what has no plain form) ...: 10, then 9."
 unfoldable pub writes : Message → ℕ → Written
@@ -32,6 +33,17 @@ written m out = cond (plain m) (cond (ltb (length out) (length (encode m))) out 
 pub record Writing (m : Message) (entry : List ℕ) (answer : Written) (exit : List ℕ) : Type 0 where
   pub answers : answer ≡ writes m (length entry)
   pub output : exit ≡ written m entry
+
+-- the same of what may not be formed: 10 then, and the output as it was
+abbrev pub writesFormed : Bool → Message → ℕ → Written
+writesFormed formed m room = cond formed (writes m room) (Refused 10)
+
+abbrev pub writtenFormed : Bool → Message → List ℕ → List ℕ
+writtenFormed formed m out = cond formed (written m out) out
+
+pub record WritingFormed (formed : Bool) (m : Message) (entry : List ℕ) (answer : Written) (exit : List ℕ) : Type 0 where
+  pub answers : answer ≡ writesFormed formed m (length entry)
+  pub output : exit ≡ writtenFormed formed m entry
 
 -- ---- the messages that the writers are handed
 

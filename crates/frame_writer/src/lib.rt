@@ -6,6 +6,7 @@ mod events;
 mod header;
 mod local_remote;
 mod requests;
+mod responses;
 mod small;
 mod storing;
 
@@ -15,6 +16,9 @@ pub use events::write_notification;
 pub use local_remote::write_information;
 pub use requests::request_octets;
 pub use requests::write_request;
+pub use responses::needed_octets;
+pub use responses::write_answers;
+pub use responses::write_response;
 pub use small::organization_octets;
 pub use small::write_loopback;
 pub use small::write_organization;

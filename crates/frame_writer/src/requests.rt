@@ -7,7 +7,7 @@ ghost use Rattle.frame.specs.Frame.{request};
 ghost use Rattle.octets.specs.Octets.{oct};
 ghost use Rattle.octets.specs.Layout.{bodyStart};
 ghost use Rattle.frame_writer.specs.Encode.{joined};
-ghost use Rattle.frame_writer.specs.Plain.{plainDescriptor, plainDescriptors, sized};
+ghost use Rattle.frame_writer.specs.Plain.{sized};
 ghost use Rattle.frame_writer.specs.Writing.{Writing, messageOf};
 use crate::Written;
 use crate::header::at_least_shortest;
@@ -15,42 +15,17 @@ use crate::header::finish;
 use crate::header::is_plain;
 use crate::header::put_header;
 use crate::storing::put_number;
+use frame_variables::plain_descriptors;
 use octets::BODY_START;
 
-fn plain_descriptor(descriptor: u32) -> bool
-    ensures { λ r. ⌜ r ≡ plainDescriptor descriptor ⌝ }
-{
-    if descriptor < 65536 {
-        return false;
-    }
-    descriptor < 0x1000000
-}
-
-// Whether they are 1 to 32 descriptors in plain form.
-fn plain_descriptors(descriptors: &[u32]) -> bool
-    ensures { λ r. ⌜ r ≡ plainDescriptors (now (descriptors .entry)) ⌝ }
-{
-    if descriptors.len() < 1 {
-        return false;
-    }
-    if 32 < descriptors.len() {
-        return false;
-    }
-    let mut i: usize = 0;
-    while i < descriptors.len() {
-        if !plain_descriptor(descriptors[i]) {
-            return false;
-        }
-        i += 1;
-    }
-    true
-}
+// The most descriptors of a Variable Request.
+const MOST_DESCRIPTORS: usize = 32;
 
 // The octets of a Variable Request's frame, 0 where it has no plain form.
 pub fn request_octets(descriptors: &[u32]) -> usize
     ensures { λ r. ⌜ r ≡ sized (request (now (descriptors .entry))) ⌝ }
 {
-    if plain_descriptors(descriptors) {
+    if plain_descriptors(MOST_DESCRIPTORS, descriptors) {
         return at_least_shortest(BODY_START + 3 * descriptors.len());
     }
     0
@@ -72,7 +47,11 @@ fn put_descriptors(out: &mut [u8], descriptors: &[u32])
 pub fn write_request(source: u64, flags: u16, descriptors: &[u32], out: &mut [u8]) -> Written
     ensures { λ r. ⌜ Writing (messageOf source flags (request (now (descriptors .entry)))) (now (out .entry)) r (now (out .exit)) ⌝ }
 {
-    if !is_plain(source, flags, plain_descriptors(descriptors)) {
+    if !is_plain(
+        source,
+        flags,
+        plain_descriptors(MOST_DESCRIPTORS, descriptors),
+    ) {
         return Written::Refused(10);
     }
     let end = BODY_START + 3 * descriptors.len();

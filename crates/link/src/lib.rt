@@ -15,6 +15,7 @@ use link_end::News;
 pub use reporting::take_report;
 pub use requesting::notify;
 pub use requesting::request_variables;
+pub use requesting::respond;
 pub use requesting::send_organization;
 pub use requesting::start;
 pub use requesting::stop;

@@ -1,9 +1,9 @@
-// The five requests. None of them writes an owed Information frame: the next tick, receive or report does.
+// The six requests. None of them writes an owed Information frame: the next tick, receive or report does.
 ghost use mathlib.Core.Path.{_≡_};
 ghost use lib.ListN.{length};
 ghost use Rattle.frame.specs.Frame.{loopback};
 ghost use Rattle.link.specs.Outcomes.{lengthOf, outcome};
-ghost use Rattle.link.specs.Requests.{starting, stopping, requesting, notifying, telling, concludedRequest, concludedRequestOutput, requestOf, requestOutput};
+ghost use Rattle.link.specs.Requests.{starting, stopping, requesting, notifying, telling, responding, concludedRequest, concludedRequestOutput, requestOf, requestOutput};
 use crate::Outcome;
 use crate::concluding::length_of;
 use crate::concluding::outcome;
@@ -116,6 +116,38 @@ pub fn send_organization(e: End, oui: u32, octets: &[u8], out: &mut [u8]) -> Out
             link_end::flags_to_send(after),
             oui,
             octets,
+            out,
+        );
+        return send(after, written);
+    }
+    refuse(after, decided.answer)
+}
+
+// Answers descriptors by the attributes that the box holds: two numbers each, descriptor and width, and their values one after
+// another.
+pub fn respond(
+    e: End,
+    attributes: &[u32],
+    values: &[u8],
+    descriptors: &[u32],
+    out: &mut [u8],
+) -> Outcome
+    ensures { λ r. ⌜ (r ≡ requestOf (responding (now (attributes .entry)) (now (values .entry)) (now (descriptors .entry)) e) (length (now (out .entry))) e) × (now (out .exit) ≡ requestOutput (responding (now (attributes .entry)) (now (values .entry)) (now (descriptors .entry)) e) e (now (out .entry))) ⌝ }
+{
+    let settings = e.settings();
+    let size = link_end::smaller_maximum(e);
+    let lent = out.len();
+    let needed = frame_writer::needed_octets(lent, size, attributes, values, descriptors);
+    let decided = link_end::grant_response(needed, lent, e);
+    let after = decided.end;
+    if decided.answer == 0 {
+        let written = frame_writer::write_answers(
+            settings.source,
+            link_end::flags_to_send(after),
+            size,
+            attributes,
+            values,
+            descriptors,
             out,
         );
         return send(after, written);

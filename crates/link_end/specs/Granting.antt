@@ -1,9 +1,9 @@
 -- What a request makes of an end, and the answer to it.
-use Prim.Native.Nat.{ℕ}
-use mathlib.Core.Bool.{Bool, true, false, cond}
+use Prim.Native.Nat.{ℕ, min}
+use mathlib.Core.Bool.{Bool, true, false, cond, not, _||_}
 use lib.Dec.{ltb, leb, eqb}
 use Rattle.octets.specs.Layout.{shortestFrame}
-use Rattle.link_peer.specs.Peers.{peerMaximum}
+use Rattle.link_peer.specs.Peers.{mayRespond, peerMaximum}
 use Rattle.link_limit.specs.Tests.{fitsBoth, requestAnswer}
 use Rattle.link_limit.specs.Limit.{hasRoom, chargedMeter}
 use Rattle.link_limit.specs.Owing.{following}
@@ -18,10 +18,11 @@ use Rattle.link_end.specs.Sending.{dues}
 abbrev pub numbered : End → End
 numbered e = withOwn (withNumber (following (e .own .number)) (e .own)) e
 
--- the answer to a request for a frame of some octets (0 where it has no plain form), by the lent output's length
-unfoldable pub answerTo : ℕ → Bool → ℕ → End → ℕ
-answerTo octets permitted lent e =
-    requestAnswer (ltb 0 octets) (inAny e) permitted (fitsBoth octets (e .settings .size) (peerMaximum (e .peer .held))) (hasRoom (e .meter)) (leb octets lent)
+-- the answer to a request for a frame of some octets (0 where its values are out of range), by the lent output's length; where it is
+-- not measured against the two sizes 12 is never given
+unfoldable pub answerTo : (octets : ℕ) (permitted measured : Bool) (lent : ℕ) → End → ℕ
+answerTo octets permitted measured lent e =
+    requestAnswer (ltb 0 octets) (inAny e) permitted (not measured || fitsBoth octets (e .settings .size) (peerMaximum (e .peer .held))) (hasRoom (e .meter)) (leb octets lent)
 
 -- the end after a request is granted: its revision, what is owed, and one frame more that is written
 unfoldable pub granted : End → End → End
@@ -47,15 +48,27 @@ stopped e = withRole Ending e
 
 -- both by the lent output's length; a loopback command's frame is of the shortest length
 unfoldable pub grantedStart : ℕ → End → Decided
-grantedStart lent e = decided (answerTo shortestFrame (startAllowed e) lent e) e (started e)
+grantedStart lent e = decided (answerTo shortestFrame (startAllowed e) true lent e) e (started e)
 
 unfoldable pub grantedStop : ℕ → End → Decided
-grantedStop lent e = decided (answerTo shortestFrame (stopAllowed e) lent e) e (stopped e)
+grantedStop lent e = decided (answerTo shortestFrame (stopAllowed e) true lent e) e (stopped e)
 
 -- a frame that changes nothing else of the end
 unfoldable pub grantedFrame : ℕ → Bool → ℕ → End → Decided
-grantedFrame octets permitted lent e = decided (answerTo octets permitted lent e) e e
+grantedFrame octets permitted lent e = decided (answerTo octets permitted true lent e) e e
 
 -- a notification
 unfoldable pub grantedNumber : ℕ → ℕ → End → Decided
-grantedNumber octets lent e = decided (answerTo octets true lent e) e (numbered e)
+grantedNumber octets lent e = decided (answerTo octets true true lent e) e (numbered e)
+
+-- a Variable Response: whether the end may
+abbrev pub responseAllowed : End → Bool
+responseAllowed e = mayRespond (e .settings .configuration) (e .peer .held)
+
+-- "12 is never given here"
+unfoldable pub grantedResponse : ℕ → ℕ → End → Decided
+grantedResponse octets lent e = decided (answerTo octets (responseAllowed e) false lent e) e e
+
+-- "the smaller maximum size"
+unfoldable pub smallerMaximum : End → ℕ
+smallerMaximum e = min (e .settings .size) (peerMaximum (e .peer .held))

@@ -1,6 +1,6 @@
 // What a request makes of an end, and the answer to it.
 ghost use mathlib.Core.Path.{_≡_};
-ghost use Rattle.link_end.specs.Granting.{answerTo, granted, decided, grantedStart, grantedStop, grantedFrame, grantedNumber};
+ghost use Rattle.link_end.specs.Granting.{answerTo, granted, decided, grantedStart, grantedStop, grantedFrame, grantedNumber, grantedResponse, smallerMaximum};
 use crate::Decided;
 use crate::End;
 use crate::Own;
@@ -8,9 +8,10 @@ use crate::parts::in_any;
 use crate::sending::dues;
 use link_loopback::Role;
 
-// The answer to a request for a frame of some octets, 0 where it has no plain form.
-fn answer_to(octets: usize, permitted: bool, lent: usize, e: End) -> u8
-    ensures { λ r. ⌜ r ≡ answerTo octets permitted lent e ⌝ }
+// The answer to a request for a frame of some octets, 0 where its values are out of range. One that is not measured against the two
+// maximum sizes is never answered 12.
+fn answer_to(octets: usize, permitted: bool, measured: bool, lent: usize, e: End) -> u8
+    ensures { λ r. ⌜ r ≡ answerTo octets permitted measured lent e ⌝ }
 {
     let peer = e.peer;
     let held = peer.held;
@@ -18,7 +19,10 @@ fn answer_to(octets: usize, permitted: bool, lent: usize, e: End) -> u8
         0 < octets,
         in_any(e),
         permitted,
-        link_limit::fits_both(octets, e.settings.size, link_peer::peer_maximum(held)),
+        octets::either(
+            !measured,
+            link_limit::fits_both(octets, e.settings.size, link_peer::peer_maximum(held)),
+        ),
         link_limit::has_room(e.meter),
         octets <= lent,
     )
@@ -63,7 +67,7 @@ pub fn grant_start(e: End, lent: usize) -> Decided
         ..e
     };
     decide(
-        answer_to(octets::SHORTEST_FRAME, permitted, lent, e),
+        answer_to(octets::SHORTEST_FRAME, permitted, true, lent, e),
         e,
         next,
     )
@@ -80,7 +84,7 @@ pub fn grant_stop(e: End, lent: usize) -> Decided
         ..e
     };
     decide(
-        answer_to(octets::SHORTEST_FRAME, permitted, lent, e),
+        answer_to(octets::SHORTEST_FRAME, permitted, true, lent, e),
         e,
         next,
     )
@@ -90,7 +94,7 @@ pub fn grant_stop(e: End, lent: usize) -> Decided
 pub fn grant_frame(octets: usize, permitted: bool, lent: usize, e: End) -> Decided
     ensures { λ r. ⌜ r ≡ grantedFrame octets permitted lent e ⌝ }
 {
-    decide(answer_to(octets, permitted, lent, e), e, e)
+    decide(answer_to(octets, permitted, true, lent, e), e, e)
 }
 
 // A notification of some octets: the next one carries the next number.
@@ -105,5 +109,27 @@ pub fn grant_number(octets: usize, lent: usize, e: End) -> Decided
         },
         ..e
     };
-    decide(answer_to(octets, true, lent, e), e, next)
+    decide(answer_to(octets, true, true, lent, e), e, next)
+}
+
+// A Variable Response of some octets, which is cut to the smaller maximum size and so not measured.
+pub fn grant_response(octets: usize, lent: usize, e: End) -> Decided
+    ensures { λ r. ⌜ r ≡ grantedResponse octets lent e ⌝ }
+{
+    let peer = e.peer;
+    let held = peer.held;
+    let permitted = link_peer::may_respond(e.settings.configuration, held);
+    decide(answer_to(octets, permitted, false, lent, e), e, e)
+}
+
+// The smaller of the two maximum sizes.
+pub fn smaller_maximum(e: End) -> usize
+    ensures { λ r. ⌜ r ≡ smallerMaximum e ⌝ }
+{
+    let peer = e.peer;
+    let held = peer.held;
+    octets::smaller(
+        e.settings.size as usize,
+        link_peer::peer_maximum(held) as usize,
+    )
 }

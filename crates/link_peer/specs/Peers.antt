@@ -1,6 +1,6 @@
 -- What is kept of a received frame, what a peer record says, and HOUSE, satisfied.
 use Prim.Native.Nat.{ℕ, _%_}
-use mathlib.Core.Bool.{Bool, true, false, cond, _&&_, _||_}
+use mathlib.Core.Bool.{Bool, true, false, cond, not, _&&_, _||_}
 use lib.Bits.{bitAnd}
 use lib.Dec.{leb, eqb}
 use Rattle.frame.specs.Flags.{flagsOf}
@@ -44,6 +44,10 @@ peerActive (Of i) = bit 0 (i .configuration)
 unfoldable pub peerLoopback : Record → Bool
 peerLoopback Absent = false
 peerLoopback (Of i) = bit 2 (i .configuration)
+
+-- "own bit 4 clear is 15"; and 001 Table 57-1, note a, of an active end that responds: "Requires the peer DTE to be in Active mode."
+unfoldable pub mayRespond : ℕ → Record → Bool
+mayRespond configuration r = bit 4 configuration && (not (bit 0 configuration) || peerActive r)
 
 unfoldable pub peerMaximum : Record → ℕ
 peerMaximum Absent = 0

@@ -19,3 +19,9 @@ pub fn is_loopback(configuration: u8) -> bool
 {
     configuration >> 2 & 1 == 1
 }
+
+pub(crate) fn is_variable_retrieval(configuration: u8) -> bool
+    ensures { λ r. ⌜ r ≡ bit 4 configuration ⌝ }
+{
+    configuration >> 4 & 1 == 1
+}

@@ -13,6 +13,7 @@ pub use peers::is_peer_loopback;
 pub use peers::is_satisfied;
 pub use peers::kept_from;
 pub use peers::maximum;
+pub use peers::may_respond;
 pub use peers::peer_maximum;
 pub use peers::record_from;
 pub use peers::record_of;

@@ -1,10 +1,11 @@
 // What is kept of a received frame, what a peer record says, and whether an end is satisfied by it.
 ghost use mathlib.Core.Path.{_≡_};
-ghost use Rattle.link_peer.specs.Peers.{maximumOf, hasAll, satisfies, satisfied, isHeld, peerActive, peerLoopback, peerMaximum, keptFrom, recordFrom, recordSays, recordOf};
+ghost use Rattle.link_peer.specs.Peers.{maximumOf, hasAll, satisfies, satisfied, isHeld, peerActive, peerLoopback, mayRespond, peerMaximum, keptFrom, recordFrom, recordSays, recordOf};
 use crate::Record;
 use crate::Settings;
 use crate::bits::is_active;
 use crate::bits::is_loopback;
+use crate::bits::is_variable_retrieval;
 use frame_body::Held;
 use frame_body::Information;
 use octets::all_four;
@@ -70,6 +71,17 @@ pub fn is_peer_loopback(held: Record) -> bool
     match held {
         Record::Absent => false,
         Record::Of(i) => is_loopback(i.configuration),
+    }
+}
+
+// Whether an end of a configuration may answer the peer's variable requests.
+pub fn may_respond(configuration: u8, held: Record) -> bool
+    ensures { λ r. ⌜ r ≡ mayRespond configuration held ⌝ }
+{
+    if is_variable_retrieval(configuration) {
+        either(!is_active(configuration), is_peer_active(held))
+    } else {
+        false
     }
 }
 

@@ -2,6 +2,7 @@
 ghost use lib.ListN.{length};
 ghost use Rattle.oam_showing.specs.Showing.{Showing};
 ghost use Rattle.oam_showing.specs.Reading.{frameShown, allShown, ShowingAll};
+ghost use Rattle.oam_showing.specs.Asking.{descriptorsShown};
 
 // Reads a frame (`oam_showing::read`).
 #[no_mangle]
@@ -22,4 +23,12 @@ pub extern "C" fn oam_read_all(
     ensures { λ r. ⌜ ShowingAll (allShown (now (frame .entry)) first (length (now (header .entry))) (length (now (rows .entry)))) (now (header .entry)) (now (rows .entry)) r (now (header .exit)) (now (rows .exit)) ⌝ }
 {
     oam_showing::read_all(frame, first, header, rows)
+}
+
+// Reads all descriptors of a Variable Request (`oam_showing::read_descriptors`).
+#[no_mangle]
+pub extern "C" fn oam_descriptors(frame: &[u8], descriptors: &mut [u32]) -> u64
+    ensures { λ r. ⌜ Showing (descriptorsShown (now (frame .entry)) (length (now (descriptors .entry)))) (now (descriptors .entry)) r (now (descriptors .exit)) ⌝ }
+{
+    oam_showing::read_descriptors(frame, descriptors)
 }

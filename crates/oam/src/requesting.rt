@@ -1,6 +1,6 @@
-// The entries of the five requests, on an end that is kept in octets that the caller lends.
+// The entries of the six requests, on an end that is kept in octets that the caller lends.
 ghost use lib.ListN.{length};
-ghost use Rattle.theorems_reach.specs.Machine.{start, stop, variables, notify, tell, request as requesting, outcomeBy, outputBy};
+ghost use Rattle.theorems_reach.specs.Machine.{start, stop, variables, notify, tell, respond, request as requesting, outcomeBy, outputBy};
 ghost use Rattle.oam_packing.specs.Octets.{unpacked};
 ghost use Rattle.oam.specs.Machine.{Stepping};
 use link_end::MaybeEnd;
@@ -58,5 +58,26 @@ pub extern "C" fn oam_organization(oui: u32, octets: &[u8], state: &mut [u8], ou
     match oam_packing::unpack(state) {
         MaybeEnd::Refused(answer) => answer as u64,
         MaybeEnd::Is(e) => store_outcome(link::send_organization(e, oui, octets, out), state),
+    }
+}
+
+// Answers the peer's descriptors by the attributes that the caller holds, lent as two numbers each, descriptor and width, and
+// their values one after another.
+#[no_mangle]
+pub extern "C" fn oam_respond(
+    attributes: &[u32],
+    values: &[u8],
+    descriptors: &[u32],
+    state: &mut [u8],
+    out: &mut [u8],
+) -> u64
+    ensures { λ r. ⌜ Stepping (outcomeBy (requesting (respond (now (attributes .entry)) (now (values .entry)) (now (descriptors .entry)))) (length (now (out .entry)))) (outputBy (requesting (respond (now (attributes .entry)) (now (values .entry)) (now (descriptors .entry))))) (unpacked (now (state .entry))) (now (state .entry)) (now (out .entry)) r (now (state .exit)) (now (out .exit)) ⌝ }
+{
+    match oam_packing::unpack(state) {
+        MaybeEnd::Refused(answer) => answer as u64,
+        MaybeEnd::Is(e) => store_outcome(
+            link::respond(e, attributes, values, descriptors, out),
+            state,
+        ),
     }
 }

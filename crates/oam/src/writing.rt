@@ -1,7 +1,8 @@
 // The entries that write frames.
 ghost use mathlib.Core.Bool.{true, _&&_};
-ghost use Rattle.frame.specs.Frame.{information, notification, request, loopback, organization};
+ghost use Rattle.frame.specs.Frame.{information, notification, request, response, loopback, organization};
 ghost use Rattle.frame_writer.specs.Writing.{messageOf, eventsOf, partsFrom};
+ghost use Rattle.frame_writer.specs.Responses.{containersOf, allContainers};
 ghost use Rattle.oam.specs.Lending.{lends, heldFrom};
 ghost use Rattle.oam.specs.Writing.{WritingFrame};
 use crate::lending::held_from;
@@ -60,6 +61,20 @@ pub extern "C" fn oam_write_request(
     ensures { λ r. ⌜ WritingFrame true (messageOf source flags (request (now (descriptors .entry)))) (now (out .entry)) r (now (out .exit)) ⌝ }
 {
     written_number(frame_writer::write_request(source, flags, descriptors, out))
+}
+
+// Writes a Variable Response frame of containers as they stand in a frame, none or more; octets that are not containers to the
+// last of them are 10.
+#[no_mangle]
+pub extern "C" fn oam_write_response(
+    source: u64,
+    flags: u16,
+    containers: &[u8],
+    out: &mut [u8],
+) -> u64
+    ensures { λ r. ⌜ WritingFrame (allContainers (now (containers .entry))) (messageOf source flags (response (containersOf (now (containers .entry))))) (now (out .entry)) r (now (out .exit)) ⌝ }
+{
+    written_number(frame_writer::write_response(source, flags, containers, out))
 }
 
 // Writes a Loopback Control frame.

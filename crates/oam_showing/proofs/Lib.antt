@@ -4,3 +4,4 @@ pub mod Moving
 pub mod Stored
 pub mod Taking
 pub mod ReadAll
+mod Asked

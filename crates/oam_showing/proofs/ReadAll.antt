@@ -104,11 +104,11 @@ short-frame f =
     by-cond (λ (n : ℕ). n ≡ 0 → length f ≤ 1514) (ltb (length f) 60 || ltb 1514 (length f)) (λ _ e. absurd (omega arith))
     (λ h _. omega (arith, ltb-false 1514 (length f) (neither (ltb (length f) 60) (ltb 1514 (length f)) h .1)))
 
+pub message-length : (f : List ℕ) (m : Message) → decode f ≡ accepted m → (60 ≤ length f) × (length f ≤ 1514)
+message-length f m e = let passed = shown f m e .passed in (header-long f passed, short-frame f passed)
+
 pub accepted-length : (f : List ℕ) (headerRoom : ℕ) → frameShown f headerRoom .answer ≡ 0 → (60 ≤ length f) × (length f ≤ 1514)
-accepted-length f headerRoom h =
-    let a = accepted-all f 0 headerRoom 0 h in
-    let passed = shown f (a .message) (a .accepts) .passed in
-    (header-long f passed, short-frame f passed)
+accepted-length f headerRoom h = let a = accepted-all f 0 headerRoom 0 h in message-length f (a .message) (a .accepts)
 
 pub accepting : (f : List ℕ) (first : ℕ) (header rows : List ℕ) {answer from count : ℕ} {header-exit rows-exit : List ℕ}
     → Showing (frameShown f (length header)) header answer header-exit → answer ≡ 0

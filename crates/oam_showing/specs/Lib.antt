@@ -2,6 +2,7 @@
 pub mod Showing
 pub mod Parts
 pub mod Reading
+pub mod Asking
 pub mod Storing
 pub mod Lines
 pub mod Taking

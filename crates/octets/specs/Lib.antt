@@ -2,3 +2,4 @@
 pub mod Octets
 pub mod Bits
 pub mod Layout
+pub mod Tests

@@ -16,7 +16,7 @@ use Rattle.theorems_reach.specs.Premises.{OfOctets}
 use Rattle.oam.specs.Machine.{stateAfter, freshFor, freshState, reportFrom, reportedBy, reportedOutput, receivedBy, receivedOutput}
 
 -- what an entry is handed beside the state and the output: oam_tick nothing, oam_report a number, oam_receive a frame and a
--- header with room for some numbers, oam_start, oam_stop, oam_request, oam_notify and oam_organization a request
+-- header with room for some numbers, oam_start, oam_stop, oam_request, oam_notify, oam_organization and oam_respond a request
 pub data EntryInput : Type 0 where
   ticks : EntryInput
   reports : ℕ → EntryInput

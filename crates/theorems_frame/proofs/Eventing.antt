@@ -21,7 +21,7 @@ use Rattle.frame_writer.specs.Plain.{plainEvent}
 use Rattle.frame_writer.proofs.Lengths.{Tabled, tabled}
 use Rattle.frame_writer.proofs.Sevens.{six-values}
 use Rattle.octets.proofs.Numbers.{fields-fit}
-use Rattle.theorems_frame.proofs.Walking.{Each, Shown, Codes}
+use Rattle.frame_writer.proofs.Walking.{Each, Shown, Codes}
 use Rattle.theorems_frame.proofs.Marking.{mark-stop, tlv-read, OnKnown, Stands, mark-again}
 
 module _ (s : List ℕ) where

@@ -18,20 +18,23 @@ use Rattle.octets.specs.Layout.{bodyStart, eventsStart, dataStart}
 use Rattle.octets.proofs.Numbers.{num-lt, octets-from}
 use Rattle.octets.proofs.Bools.{by-cond, one-of}
 use Rattle.frame.proofs.Stepping.{steps-give-parts}
-use Rattle.frame_writer.specs.Plain.{every, plainEvent, plainDescriptor}
-use Rattle.theorems_frame.proofs.Walking.{walk-fits}
+use Rattle.octets.specs.Tests.{every}
+use Rattle.frame_variables.specs.Descriptors.{plainDescriptor}
+use Rattle.frame_writer.specs.Plain.{plainEvent, plainContainer}
+use Rattle.frame_writer.proofs.Walking.{walk-fits}
+use Rattle.frame_writer.proofs.Containing.{descriptor-codes, containers-fit}
 use Rattle.theorems_frame.proofs.Informing.{fitPart, information-codes}
 use Rattle.theorems_frame.proofs.Eventing.{event-codes}
-use Rattle.theorems_frame.proofs.Describing.{fitContainer, descriptor-codes, containers-fit}
 use Rattle.theorems_frame.proofs.Heading.{source-is, flags-are, header-passes, header-accepted}
 
 -- Every Information field within its width, every event of a type in the table with its values within the widths there,
--- every descriptor of a branch from 1 on and within three octets, every number within its octets.
+-- every descriptor of a branch from 1 on and within three octets, also of a container, whose value has 1 to 128 octets or which
+-- has an octet with bit 7 set in its place, every number within its octets.
 abbrev pub FitsBody : Body → Type 0
 FitsBody (information ps) = every fitPart ps ≡ true
 FitsBody (notification n es) = (n < 256 ^ 2) × (every plainEvent es ≡ true)
 FitsBody (request ds) = every plainDescriptor ds ≡ true
-FitsBody (response cs) = every fitContainer cs ≡ true
+FitsBody (response cs) = every plainContainer cs ≡ true
 FitsBody (loopback n) = (n ≡ 1) ⊎ (n ≡ 2)
 FitsBody (organization oui x) = (oui < 256 ^ 3) × Octets x
 

@@ -20,10 +20,11 @@ use Rattle.frame_body.specs.declared.InformationStep.the-variants.{Local, Remot
 use Rattle.octets.proofs.Bools.{by-cond, never, and-l, and-r, one-of}
 use Rattle.frame_tlvs.proofs.Marks.{Marked, mark-within, information-16}
 use Rattle.frame_writer.specs.Encode.{informationOctets, partOctets}
-use Rattle.frame_writer.specs.Plain.{every, plainInformation, plainParts}
+use Rattle.octets.specs.Tests.{every}
+use Rattle.frame_writer.specs.Plain.{plainInformation, plainParts}
 use Rattle.frame_writer.proofs.Lengths.{length-information, length-part}
 use Rattle.octets.proofs.Numbers.{fields-fit}
-use Rattle.theorems_frame.proofs.Walking.{these, Each, Shown, Codes}
+use Rattle.frame_writer.proofs.Walking.{these, Each, Shown, Codes}
 use Rattle.theorems_frame.proofs.Marking.{tlvOctets, mark-stop, tlv-read, OnKnown, Stands, mark-again}
 
 -- each field of a part within its width

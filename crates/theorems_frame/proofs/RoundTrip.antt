@@ -14,20 +14,22 @@ use Rattle.octets.specs.Layout.{shortestFrame, bodyStart, eventsStart, dataStar
 use Rattle.frame_tlvs.specs.Walk.{parts, also, listed}
 use Rattle.frame_body.specs.Information.{informationWalk, informationParts}
 use Rattle.frame_tlvs.specs.Events.{eventWalk}
-use Rattle.frame_body.specs.Variables.{descriptorWalk}
+use Rattle.frame_body.specs.Variables.{descriptorWalk, containerWalk}
 use Rattle.frame.specs.Frame.{Body, information, notification, request, response, loopback, organization, Message, codeOf, Answer, refused, accepted, says, saysAll, bodyAnswer, decode}
 use Rattle.frame.specs.Steps.{Stepped}
 use Rattle.frame.proofs.Stepping.{steps-give-parts}
 use Rattle.frame_writer.specs.Encode.{eventOctets, joined, bodyOctets, encode}
-use Rattle.frame_writer.specs.Plain.{every, plainEvent, plainDescriptor, plainFlags, plainBody, plain}
-use Rattle.theorems_frame.specs.PlainFrame.{noneSkipped, allKnown, shortest, plainAnswer, plainFrame}
+use Rattle.octets.specs.Tests.{every}
+use Rattle.frame_variables.specs.Descriptors.{plainDescriptor}
+use Rattle.frame_writer.specs.Plain.{plainEvent, plainContainer, plainFlags, plainBody, plain, noneSkipped}
+use Rattle.theorems_frame.specs.PlainFrame.{allKnown, shortest, plainAnswer, plainFrame}
 use Rattle.octets.proofs.Bools.{never, and-l, and-r, one-of}
 use Rattle.octets.proofs.Numbers.{length-oct, octets-from, past, number-read, number-again}
 use Rattle.frame_writer.proofs.Lengths.{length-header, plain-body, endOf, header, unpadded, length-unpadded}
-use Rattle.theorems_frame.proofs.Walking.{these, these-known, Begins, walk-read, walk-again}
+use Rattle.frame_writer.proofs.Walking.{these, these-known, Begins, walk-read, walk-again}
+use Rattle.frame_writer.proofs.Containing.{descriptor-codes, container-codes}
 use Rattle.theorems_frame.proofs.Informing.{information-codes, plain-parts}
 use Rattle.theorems_frame.proofs.Eventing.{event-codes}
-use Rattle.theorems_frame.proofs.Describing.{descriptor-codes}
 use Rattle.theorems_frame.proofs.Heading.{Headed, header-read, source-is, flags-are, header-passes, header-again, header-accepted}
 use Rattle.theorems_frame.proofs.Sizes.{encode-length, padded-shortest, shortest-padded}
 
@@ -52,7 +54,7 @@ record Back (f : List ℕ) (b : Body) : Type 0 where
 
 -- a body that was written is read
 back : (f : List ℕ) (b : Body) → plainBody b ≡ true → drop bodyStart f ≡ bodyOctets b ++ rest b → Back f b
-unfolding bodyAnswer informationWalk eventWalk descriptorWalk
+unfolding bodyAnswer informationWalk eventWalk descriptorWalk containerWalk
 back f (information ps) h e =
     let p = plain-parts ps h in
     let w : informationWalk (drop bodyStart f) ≡ these ps = walk-read (information-codes (drop bodyStart f)) ps (left (information ps)) (p .fits) e in
@@ -71,7 +73,10 @@ back f (request ds) h e =
     let all : every plainDescriptor ds ≡ true = search and-r in
     let w : descriptorWalk (drop bodyStart f) ≡ these ds = walk-read (descriptor-codes (drop bodyStart f)) ds (left (request ds)) all e in
     record { answer = ap (saysAll f request) (ap listed w ∙ listed-these ds); known = refl }
-back f (response cs) h e = never h
+back f (response cs) h e =
+    let all : every plainContainer cs ≡ true = search and-l in
+    let w : containerWalk (drop bodyStart f) ≡ these cs = walk-read (container-codes (drop bodyStart f)) cs (left (response cs)) all e in
+    record { answer = ap (saysAll f response) (ap listed w ∙ listed-these cs); known = refl }
 back f (loopback n) h e =
     let small : n < 256 ^ 1 = one-of (eqb n 1) (eqb n 2) (λ t. omega (arith, eqb-true n 1 t)) (λ t. omega (arith, eqb-true n 2 t)) h in
     let number : getD f bodyStart 0 ≡ n = rw zero-add at (number-read 1 n f bodyStart (rest (loopback n)) small e) in
@@ -131,13 +136,13 @@ module _ (m : Message) (p : plain m ≡ true) where
 
 -- a body that is read, with nothing skipped, stands in the frame
 again : (f : List ℕ) → Octets f → shortestFrame ≤ length f → (b : Body) → Stepped f b → allKnown f b ≡ true → Begins (drop bodyStart f) (bodyOctets b)
-unfolding informationWalk eventWalk descriptorWalk
+unfolding informationWalk eventWalk descriptorWalk containerWalk
 again f o l (information ps) h k = rw h (walk-again (information-codes (drop bodyStart f)) (octets-from f o bodyStart) (λ _. k))
 again f o l (notification n es) h k =
     let r = walk-again (event-codes (drop eventsStart f)) (octets-from f o eventsStart) (λ _. k) in
     (r .0, rw (h .0, h .1, ← r .1) (number-again f o 2 bodyStart (omega arith)))
 again f o l (request ds) h k = rw h (walk-again (descriptor-codes (drop bodyStart f)) (octets-from f o bodyStart) (λ z. absurd z))
-again f o l (response cs) h k = (drop bodyStart f, refl)
+again f o l (response cs) h k = rw h (walk-again (container-codes (drop bodyStart f)) (octets-from f o bodyStart) (λ z. absurd z))
 again f o l (loopback n) h k = (drop 19 f, rw h (rw zero-add at (number-again f o 1 bodyStart (omega arith))))
 again f o l (organization oui x) h k = ([], rw (h .0, h .1, append-nil (drop dataStart f)) (number-again f o 3 bodyStart (omega arith)))
 

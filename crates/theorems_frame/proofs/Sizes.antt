@@ -12,9 +12,11 @@ use Rattle.frame.specs.Frame.{Body, information, notification, request, respons
 use Rattle.octets.specs.Octets.{zeros}
 use Rattle.octets.specs.Layout.{shortestFrame, longestFrame}
 use Rattle.frame_writer.specs.Encode.{padded, encode}
-use Rattle.frame_writer.specs.Plain.{every, plainEvent, plainBody, plain}
+use Rattle.octets.specs.Tests.{every}
+use Rattle.frame_variables.specs.Answers.{containersLength}
+use Rattle.frame_writer.specs.Plain.{plainEvent, plainBody, plain}
 use Rattle.theorems_frame.specs.PlainFrame.{shortest}
-use Rattle.octets.proofs.Bools.{never, and-l, and-r}
+use Rattle.octets.proofs.Bools.{and-l, and-r}
 use Rattle.frame_writer.proofs.Lengths.{events-short, plain-body, endOf, length-padded, length-encode}
 use Rattle.theorems_frame.proofs.Informing.{plain-parts}
 
@@ -26,7 +28,7 @@ body-short (notification n es) h =
     let all : every plainEvent es ≡ true = search and-r in
     omega (arith, leb-true (length es) 4 few, events-short es all)
 body-short (request ds) h = let few : leb (length ds) 32 ≡ true = search (and-l, and-r) in omega (arith, leb-true (length ds) 32 few)
-body-short (response cs) h = never h
+body-short (response cs) h = let few : leb (containersLength cs) 1496 ≡ true = search and-r in omega (arith, leb-true (containersLength cs) 1496 few)
 body-short (loopback n) h = omega arith
 body-short (organization oui x) h = let few : leb (length x) 1493 ≡ true = search and-r in omega (arith, leb-true (length x) 1493 few)
 

@@ -1,3 +1,5 @@
 -- What the theorems say of frames.
 pub mod PlainFrame
 pub mod Handing
+pub mod Tables
+pub mod Responding

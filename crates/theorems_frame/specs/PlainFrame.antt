@@ -6,18 +6,10 @@ use lib.ListN.{length, drop}
 use lib.Dec.{eqb}
 use Rattle.octets.specs.Octets.{zeros}
 use Rattle.octets.specs.Layout.{shortestFrame, bodyStart, eventsStart}
-use Rattle.frame_tlvs.specs.Walk.{Walk, ends, breaks, over, part}
 use Rattle.frame_tlvs.specs.Events.{eventWalk}
 use Rattle.frame_body.specs.Information.{informationWalk}
 use Rattle.frame.specs.Frame.{Body, information, notification, request, response, loopback, organization, Answer, refused, accepted, decode}
-use Rattle.frame_writer.specs.Plain.{plain, bodyLength}
-
--- "no unknown TLV": a walk that skips nothing
-abbrev pub noneSkipped : {P : Type 0} → Walk P → Bool
-noneSkipped ends = true
-noneSkipped breaks = true
-noneSkipped (over w) = false
-noneSkipped (part p w) = noneSkipped w
+use Rattle.frame_writer.specs.Plain.{plain, noneSkipped, bodyLength}
 
 -- no TLV of the body was skipped
 abbrev pub allKnown : List ℕ → Body → Bool

@@ -1,3 +1,4 @@
 // Theorems on frames: both round trips of reader and writer (proofs/RoundTrip.antt), that what is read fits the octets it stands
-// in (proofs/Fitting.antt), how long a frame in plain form is (proofs/Sizes.antt), and that what the reader gives of a frame in
-// plain form, handed to the writer of its code, gives that frame (proofs/Handing.antt). This crate has no code.
+// in (proofs/Fitting.antt), how long a frame in plain form is (proofs/Sizes.antt), that what the reader gives of a frame in plain
+// form, handed to the writer of its code, gives that frame (proofs/Handing.antt), and what answers descriptors, and how many of them
+// (proofs/Responding.antt). This crate has no code.

@@ -3,8 +3,9 @@ use mathlib.Core.Path.{_≡_, refl}
 use Rattle.frame_body.specs.Variables.{descriptorStep, containerStep}
 use Rattle.link_end.specs.Ranges.{blank}
 use Rattle.theorems_reach.proofs.Witness.{machine}
-use Rattle.theorems_pair.specs.Examples.{rows, foundIn, expectedIn}
+use Rattle.theorems_frame.specs.Tables.{allFound, allExpected}
+use Rattle.theorems_pair.specs.Examples.{rows}
 
-pub examples-hold : foundIn rows ≡ expectedIn rows
+pub examples-hold : allFound rows ≡ allExpected rows
 unfolding machine descriptorStep containerStep blank
 examples-hold = refl

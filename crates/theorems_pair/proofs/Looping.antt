@@ -8,7 +8,7 @@ use Rattle.octets.specs.Bits.{bit}
 use Rattle.link_loopback.specs.Loopback.{mayStart}
 use Rattle.link_end.specs.declared.End.{End}
 use Rattle.link_end.specs.Parts.{inAny}
-use Rattle.theorems_reach.specs.Machine.{Request, start, stop, variables, notify, tell, Input, askedOf, bodyBy}
+use Rattle.theorems_reach.specs.Machine.{Request, start, stop, variables, notify, tell, respond, Input, askedOf, bodyBy}
 use Rattle.theorems_reach.proofs.Ranging.{asked-any}
 use Rattle.theorems_reach.proofs.Effects.{Becomes, ticks, reports, hears, asks}
 
@@ -37,3 +37,4 @@ enable-meant e after i x (asks q a p) b = (by q p b, asked-any q e ∙ a)
     by (variables ds) p b = never (ap isEnable b)
     by (notify vs) p b = never (ap isEnable b)
     by (tell oui x) p b = never (ap isEnable b)
+    by (respond ns vs ds) p b = never (ap isEnable b)

@@ -20,7 +20,7 @@ use Rattle.link_end.specs.Ticking.{missed, ticked}
 use Rattle.link_end.specs.Reporting.{linkUp, linkDown, reported}
 use Rattle.link_end.specs.Taking.{learned, acted, taken}
 use Rattle.link_end.specs.Ranges.{never as unheard, blank}
-use Rattle.theorems_reach.specs.Machine.{Request, start, stop, variables, notify, tell, Input, askedOf}
+use Rattle.theorems_reach.specs.Machine.{Request, start, stop, variables, notify, tell, respond, Input, askedOf}
 use Rattle.theorems_reach.proofs.Keeping.{by-taken}
 use Rattle.theorems_reach.proofs.Standing.{Stands}
 use Rattle.theorems_pair.specs.Safe.{quietAfter}
@@ -67,6 +67,7 @@ module _ (e : End) where
   asked-two (variables ds) h = h
   asked-two (notify vs) h = h
   asked-two (tell oui x) h = h
+  asked-two (respond ns vs ds) h = h
 
 -- it comes to 2 only by a frame that says so
 pub becomes-two : (e : End) (i : Input) (x : End) → Becomes e i x → Two x → Two e ⊎ Hears i SaysComplete
@@ -116,6 +117,7 @@ module _ (e : End) (s : Stands e) (n : ℕ) (l : Lost n e) where
   asked-lost (variables ds) = l
   asked-lost (notify vs) = l
   asked-lost (tell oui x) = l
+  asked-lost (respond ns vs ds) = l
 
   pub becomes-lost : (i : Input) (x : End) → Becomes e i x → Lost (quietAfter i n) x
   becomes-lost i x ticks = ticked-lost

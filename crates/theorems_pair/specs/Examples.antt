@@ -17,6 +17,7 @@ use Rattle.link_end.specs.declared.End.{End}
 use Rattle.link_end.specs.declared.Last.the-variants.{Never}
 use Rattle.link.specs.declared.Outcome.{Outcome}
 use Rattle.link_end.specs.Ranges.{blank}
+use Rattle.theorems_frame.specs.Tables.{Row, _is_}
 use Rattle.theorems_reach.specs.Machine.{Input, tick, request, start, outcomeOf}
 
 -- what an example shows: the answer to a frame, what stands at an octet of a list of containers, or a number
@@ -88,15 +89,7 @@ answerToFrame n = number (calling (request start) (standing 0 (n - 1) 0) .answer
 
 -- ---- the table
 
-pub record Row : Type 0 where
-  pub found : Seen
-  pub expected : Seen
-
-infix 70 _is_
-abbrev _is_ : Seen → Seen → Row
-found is expected = record { found = found; expected = expected }
-
-abbrev pub rows : List Row
+abbrev pub rows : List (Row Seen)
 rows =
     reads (frame 4 (1 ∷ []) 59) is answer (refused 1)
     ∷ reads (frame 4 (1 ∷ []) 60) is commands 1
@@ -118,12 +111,3 @@ rows =
     ∷ answerToFrame 10 is number 0
     ∷ answerToFrame 11 is number 13
     ∷ []
-
--- the two columns
-abbrev pub foundIn : List Row → List Seen
-foundIn [] = []
-foundIn (r ∷ rs) = r .found ∷ foundIn rs
-
-abbrev pub expectedIn : List Row → List Seen
-expectedIn [] = []
-expectedIn (r ∷ rs) = r .expected ∷ expectedIn rs

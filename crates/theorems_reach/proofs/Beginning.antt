@@ -30,7 +30,7 @@ use Rattle.link_end.specs.Parts.{freshEnd, discoveryOf, inAny, faulted, settled
 use Rattle.link_end.specs.Ticking.{missed, ticked}
 use Rattle.link_end.specs.Reporting.{linkUp, linkDown, reported}
 use Rattle.link_end.specs.Taking.{learned, obeysCommand, obeyed, roleAfter, acted, takenUp, taken}
-use Rattle.theorems_reach.specs.Machine.{Request, start, stop, variables, notify, tell, Input, Call, askedOf, outcomeOf}
+use Rattle.theorems_reach.specs.Machine.{Request, start, stop, variables, notify, tell, respond, Input, Call, askedOf, outcomeOf}
 use Rattle.theorems_reach.specs.Runs.{after}
 use Rattle.theorems_reach.specs.Premises.{Accepted, AllOfOctets}
 use Rattle.theorems_reach.specs.Ordering.{Ordered, OrderedIn, now, since}
@@ -125,6 +125,7 @@ module _ (e : End) where
   asked-loops (variables ds) h = h
   asked-loops (notify vs) h = h
   asked-loops (tell oui x) h = h
+  asked-loops (respond ns vs ds) h = h
 
   -- a frame's flags and Local TLV
   learned-loops : (m : Heard) → Before (learned m e)

@@ -2,16 +2,15 @@
 -- that makes something of the end, says what is owed, and writes an owed frame where it may; or it is a request that is
 -- granted. What is shown of calls elsewhere is shown for each of the three.
 use Prim.Native.Nat.{ℕ, _≤_}
-use mathlib.Core.Path.{_≡_, refl}
+use mathlib.Core.Path.{_≡_, refl, sym}
 use mathlib.Core.List.{List}
-use mathlib.Core.Bool.{Bool, true, false, cond}
+use mathlib.Core.Bool.{Bool, true, false, not, _||_}
 use native.Mathlib.Omega.{arith}
 use borrow.Author.Tests.{ltb-false, eqb-true, eqb-false}
 use lib.ListN.{length}
 use lib.Dec.{ltb, leb, eqb}
 use Rattle.frame.specs.Frame.{Message, Answer, refused, accepted, decode}
 use Rattle.frame.proofs.Stepping.{refused-number}
-use Rattle.frame_writer.specs.Plain.{sized}
 use Rattle.frame_writer.specs.Writing.{writes, written}
 use Rattle.octets.specs.Layout.{shortestFrame}
 use Rattle.link_limit.specs.Tests.{fitsBoth, requestAnswer}
@@ -32,9 +31,9 @@ use Rattle.link_end.specs.Hearing.{heardOf}
 use Rattle.link_end.specs.Taking.{taken, takenDue}
 use Rattle.link.specs.Hearing.{concludedHeard, concludedHeardOutput, receiveOf, receiveOutput}
 use Rattle.link_end.specs.Granting.{answerTo, granted, decided}
-use Rattle.link.specs.Requests.{requestToSend, concludedRequest, concludedRequestOutput, asks, asksOutput}
+use Rattle.link.specs.Requests.{Asked, octetsAsked, requestToSend, concludedRequest, concludedRequestOutput, requestOf, requestOutput}
 use Rattle.theorems_reach.specs.Machine.{Request, Input, tick, report, receive, request as asking, Call, askedOf, outcomeOf, outputOf}
-use Rattle.octets.proofs.Bools.{whether}
+use Rattle.octets.proofs.Bools.{by-cond, never, whether}
 
 -- ---- what a tick, a report or an accepted frame makes of an end, before what is owed is said
 
@@ -66,7 +65,7 @@ pub record Concludes (c : Call) (e : End) : Type 0 where
 pub record Grants (c : Call) (e : End) : Type 0 where
   pub asked : Request
   pub how : c .input ≡ asking asked
-  pub answer : answerTo (sized (askedOf asked e .body)) (askedOf asked e .permitted) (length (c .out)) e ≡ 0
+  pub answer : answerTo (octetsAsked (askedOf asked e)) (askedOf asked e .permitted) (askedOf asked e .measured) (length (c .out)) e ≡ 0
   pub outcome : outcomeOf c e
       ≡ outcome (granted e (askedOf asked e .next)) 0
       (lengthOf (writes (requestToSend (askedOf asked e .body) (granted e (askedOf asked e .next))) (length (c .out)))) Nothing
@@ -80,18 +79,28 @@ pub data Comes (c : Call) (e : End) : Type 0 where
 -- ---- each call
 
 -- "Requests: 10, 11, 15, 12, 13, 9."
-first-known : (b : Bool) (k n : ℕ) → k ≤ 15 → n ≤ 15 → cond b k n ≤ 15
-first-known true k n h g = h
-first-known false k n h g = g
-
-answer-known : (octets : ℕ) (permitted : Bool) (lent : ℕ) (e : End) → answerTo octets permitted lent e ≤ 15
+-- what is so of each is so of the answer, and 12 is given only where the frame is measured
+pub answer-is : (P : ℕ → Type 0) (octets : ℕ) (permitted measured : Bool) (lent : ℕ) (e : End)
+    → P 10 → P 11 → P 15 → (measured ≡ true → P 12) → P 13 → P 9 → P 0 → P (answerTo octets permitted measured lent e)
 unfolding answerTo requestAnswer
-answer-known octets permitted lent e =
-    let nine = first-known (leb octets lent) 0 9 (omega arith) (omega arith) in
-    let thirteen = first-known (hasRoom (e .meter)) _ 13 nine (omega arith) in
-    let twelve = first-known (fitsBoth octets (e .settings .size) (peerMaximum (e .peer .held))) _ 12 thirteen (omega arith) in
-    let fifteen = first-known permitted _ 15 twelve (omega arith) in
-    first-known (ltb 0 octets) _ 10 (first-known (inAny e) _ 11 fifteen (omega arith)) (omega arith)
+answer-is P octets permitted measured lent e ten eleven fifteen twelve thirteen nine none =
+    by-cond P (ltb 0 octets)
+    (λ _.
+    by-cond P (inAny e)
+    (λ _.
+    by-cond P permitted
+    (λ _.
+    by-cond P (not measured || fitsBoth octets (e .settings .size) (peerMaximum (e .peer .held)))
+    (λ _. by-cond P (hasRoom (e .meter)) (λ _. by-cond P (leb octets lent) (λ _. none) (λ _. nine)) (λ _. thirteen))
+    (λ f. whether measured twelve (λ n. never (sym (rw n at f)))))
+    (λ _. fifteen))
+    (λ _. eleven))
+    (λ _. ten)
+
+answer-known : (a : Asked) (lent : ℕ) (e : End) → answerTo (octetsAsked a) (a .permitted) (a .measured) lent e ≤ 15
+answer-known a lent e =
+    answer-is (λ (n : ℕ). n ≤ 15) (octetsAsked a) (a .permitted) (a .measured) lent e
+    (omega arith) (omega arith) (omega arith) (λ _. omega arith) (omega arith) (omega arith) (omega arith)
 
 -- "Receive, tick and report test 9 first, against 60 octets."
 short : (c : Call) (e : End) → outcomeOf c e ≡ outcome e 9 0 Nothing → outputOf c e ≡ c .out → Comes c e
@@ -129,15 +138,15 @@ module _ (out : List ℕ) (e : End) where
           (record { made = _; how = hears f m d; room = ltb-false (length out) shortestFrame n; outcome = rw (n, d); output = rw (n, d) })
 
   comes-request : (q : Request) → Comes (lent (asking q)) e
-  unfolding asks asksOutput concludedRequest concludedRequestOutput decided
+  unfolding requestOf requestOutput concludedRequest concludedRequestOutput decided
   comes-request q =
       let a = askedOf q e in
-      let n : ℕ = answerTo (sized (a .body)) (a .permitted) (length out) e in
+      let n : ℕ = answerTo (octetsAsked a) (a .permitted) (a .measured) (length out) e in
       whether (eqb n 0)
       (λ t. let z = eqb-true n 0 t in grants (record { asked = q; how = refl; answer = z; outcome = rw z; output = rw z }))
       (λ f.
       refuses
-      (record { number = n; some = eqb-false n 0 f; known = answer-known (sized (a .body)) (a .permitted) (length out) e; outcome = rw f; output = rw f }))
+      (record { number = n; some = eqb-false n 0 f; known = answer-known a (length out) e; outcome = rw f; output = rw f }))
 
   comes-by : (i : Input) → Comes (lent i) e
   comes-by tick = comes-tick

@@ -11,7 +11,7 @@ use lib.ListN.{length}
 use lib.Seq.{sets}
 use Rattle.frame.specs.Frame.{Body, information, Message, accepted, decode}
 use Rattle.frame_writer.specs.Encode.{encode}
-use Rattle.frame_writer.specs.Plain.{plain, sized}
+use Rattle.frame_writer.specs.Plain.{plainBody, plain, sized}
 use Rattle.frame_writer.specs.Writing.{writes, written, messageOf, partsOf}
 use Rattle.theorems_frame.proofs.Sizes.{encode-length}
 use Rattle.theorems_frame.proofs.RoundTrip.{read-back}
@@ -22,7 +22,7 @@ use Rattle.link_end.specs.Parts.{discoveryOf}
 use Rattle.link_end.specs.Sending.{faultFlagOf, flagsToSend, tlvsToSend, dues, sends, sent}
 use Rattle.link.specs.Outcomes.{informationToSend, lengthOf, outcome, concluded, concludedOutput}
 use Rattle.link_end.specs.Granting.{granted}
-use Rattle.link.specs.Requests.{requestToSend}
+use Rattle.link.specs.Requests.{octetsAsked, requestToSend}
 use Rattle.link_end.specs.Ranges.{ranged}
 use Rattle.theorems_reach.specs.Machine.{Request, Input, Call, askedOf, outcomeOf, outputOf, bodyBy, meant}
 use Rattle.theorems_reach.specs.Premises.{OfOctets}
@@ -31,9 +31,9 @@ use Rattle.theorems_reach.proofs.Coming.{Made, ticks, reports, hears, d
 use Rattle.theorems_reach.proofs.Standing.{Stands, Ranged, ranged-is}
 use Rattle.theorems_reach.proofs.Keeping.{InputFits, octets-fit}
 use Rattle.theorems_reach.proofs.Staying.{Lasting, made-stays, asked-stays}
-use Rattle.theorems_reach.proofs.Passing.{Passes, passes-grant}
+use Rattle.theorems_reach.proofs.Passing.{passes-grant}
 use Rattle.theorems_reach.proofs.Ranging.{made-ranged, asked-ranged}
-use Rattle.theorems_reach.proofs.Plainly.{message-plain, information-plain, information-60, sized-is-plain, encode-sized}
+use Rattle.theorems_reach.proofs.Plainly.{message-plain, information-plain, information-60, asked-sized, sized-is-plain, encode-sized}
 
 -- no frame is written
 pub record Silent (c : Call) (e : End) : Type 0 where
@@ -167,20 +167,24 @@ module _ (c : Call) (e : End) (r : Ranged e) (h : Grants c e) where
       let body : bodyBy (c .input) e (outcomeOf c e .end) ≡ request-body = ap (λ (i : Input). bodyBy i e (outcomeOf c e .end)) (h .how) in
       λ i. messageOf (sym source i) (flagsToSend (after i)) (body i)
 
-  abbrev request-passes : Passes (sized request-body) (askedOf (h .asked) e .permitted) (length (c .out)) e
-  request-passes = passes-grant h
+  -- it is measured as its body is, which has a plain form
+  request-asked : octetsAsked (askedOf (h .asked) e) ≡ sized request-body
+  request-asked = asked-sized (askedOf (h .asked) e) (passes-grant h .formed)
+
+  request-plain : plainBody request-body ≡ true
+  request-plain = sized-is-plain request-body (omega (arith, passes-grant h .formed, request-asked))
 
   request-sized : length (encode (requestToSend request-body request-end)) ≡ sized request-body
   unfolding requestToSend
-  request-sized = encode-sized (requestToSend request-body request-end) (sized-is-plain request-body (request-passes .formed))
+  request-sized = encode-sized (requestToSend request-body request-end) request-plain
 
   pub grants-writes : Writes c e
   unfolding requestToSend
   grants-writes =
-      let p = request-passes in
+      let p = passes-grant h in
       let s = asked-ranged (h .asked) e (p .any) (p .permitted) r .stands in
-      writes-it (requestToSend request-body request-end) (message-plain request-end request-body s (sized-is-plain request-body (p .formed))) c e
-      request-meant (rw request-sized (p .long)) (ap (λ (k : Outcome). k .length) (h .outcome)) (h .output)
+      writes-it (requestToSend request-body request-end) (message-plain request-end request-body s request-plain) c e
+      request-meant (omega (arith, request-sized, request-asked, p .long)) (ap (λ (k : Outcome). k .length) (h .outcome)) (h .output)
 
   -- how many octets it writes
   pub grants-octets : outcomeOf c e .length ≡ sized request-body

@@ -3,7 +3,7 @@
 use Prim.Native.Nat.{ℕ, _^_, _<_}
 use mathlib.Core.Path.{_≡_, refl, sym, ap, _∙_}
 use mathlib.Core.List.{List, []}
-use mathlib.Core.Bool.{Bool, true}
+use mathlib.Core.Bool.{Bool, true, false}
 use native.Mathlib.Omega.{arith}
 use borrow.Author.Tests.{eqb-true}
 use lib.Dec.{eqb}
@@ -27,9 +27,9 @@ use Rattle.link_end.specs.Ticking.{tickedDue}
 use Rattle.link_end.specs.Reporting.{reportedDue}
 use Rattle.link_end.specs.Hearing.{saidBy, heardOf}
 use Rattle.link_end.specs.Taking.{takenDue, takenWhole}
-use Rattle.link_end.specs.Granting.{answerTo, granted, decided, grantedStart, grantedStop, grantedFrame, grantedNumber}
+use Rattle.link_end.specs.Granting.{answerTo, granted, decided, grantedStart, grantedStop, grantedFrame, grantedNumber, grantedResponse, responseAllowed}
 use Rattle.link_end.specs.Ranges.{ranged, checked}
-use Rattle.theorems_reach.specs.Machine.{Request, start, stop, notify, tell, tick, report, receive, askedOf}
+use Rattle.theorems_reach.specs.Machine.{Request, start, stop, notify, tell, respond, tick, report, receive, askedOf}
 use Rattle.theorems_reach.proofs.Coming.{ticks, reports, hears}
 use Rattle.theorems_reach.proofs.Standing.{Ranged, ranged-is, is-ranged, fresh-ranged}
 use Rattle.theorems_reach.proofs.Keeping.{octets-fit}
@@ -97,29 +97,34 @@ module _ (e : End) (h : ranged e ≡ true) where
   after-sending-guarded = by-cond (λ (x : End). ranged x ≡ true) (sends e) (λ _. is-ranged (sent e) (sent-ranged e known)) (λ _. h)
 
   -- a request that is decided as the machine's are, and makes of the end what one of those makes
-  decided-guarded : (q : Request) (octets : ℕ) (permitted : Bool) (lent : ℕ)
+  decided-guarded : (q : Request) (octets : ℕ) (permitted measured : Bool) (lent : ℕ)
       → (permitted ≡ true → askedOf q e .permitted ≡ true)
-      → ranged (decided (answerTo octets permitted lent e) e (askedOf q e .next) .end) ≡ true
+      → ranged (decided (answerTo octets permitted measured lent e) e (askedOf q e .next) .end) ≡ true
   unfolding decided
-  decided-guarded q octets permitted lent p =
-      by-cond (λ (x : End). ranged x ≡ true) (eqb (answerTo octets permitted lent e) 0)
+  decided-guarded q octets permitted measured lent p =
+      let n = answerTo octets permitted measured lent e in
+      by-cond (λ (x : End). ranged x ≡ true) (eqb n 0)
       (λ t.
-      let k = passes octets permitted lent e (eqb-true (answerTo octets permitted lent e) 0 t) in
+      let k = passes octets permitted measured lent e (eqb-true n 0 t) in
       is-ranged (granted e (askedOf q e .next)) (asked-ranged q e (k .any) (p (k .permitted)) known))
       (λ _. h)
 
   pub grant-start-guarded : (lent : ℕ) → ranged (grantedStart lent e .end) ≡ true
   unfolding grantedStart
-  grant-start-guarded lent = decided-guarded start shortestFrame (mayStart (e .settings .configuration) (e .peer .held) (e .role)) lent (λ p. p)
+  grant-start-guarded lent = decided-guarded start shortestFrame (mayStart (e .settings .configuration) (e .peer .held) (e .role)) true lent (λ p. p)
 
   pub grant-stop-guarded : (lent : ℕ) → ranged (grantedStop lent e .end) ≡ true
   unfolding grantedStop
-  grant-stop-guarded lent = decided-guarded stop shortestFrame (mayStop (e .settings .configuration) (e .role)) lent (λ p. p)
+  grant-stop-guarded lent = decided-guarded stop shortestFrame (mayStop (e .settings .configuration) (e .role)) true lent (λ p. p)
 
   pub grant-frame-guarded : (octets : ℕ) (permitted : Bool) (lent : ℕ) → ranged (grantedFrame octets permitted lent e .end) ≡ true
   unfolding grantedFrame
-  grant-frame-guarded octets permitted lent = decided-guarded (tell 0 []) octets permitted lent (λ _. refl)
+  grant-frame-guarded octets permitted lent = decided-guarded (tell 0 []) octets permitted true lent (λ _. refl)
 
   pub grant-number-guarded : (octets lent : ℕ) → ranged (grantedNumber octets lent e .end) ≡ true
   unfolding grantedNumber
-  grant-number-guarded octets lent = decided-guarded (notify []) octets true lent (λ _. refl)
+  grant-number-guarded octets lent = decided-guarded (notify []) octets true true lent (λ _. refl)
+
+  pub grant-response-guarded : (octets lent : ℕ) → ranged (grantedResponse octets lent e .end) ≡ true
+  unfolding grantedResponse
+  grant-response-guarded octets lent = decided-guarded (respond [] [] []) octets (responseAllowed e) false lent (λ p. p)

@@ -12,7 +12,8 @@ use Rattle.frame_body.specs.declared.Held.{Held}
 use Rattle.frame_body.specs.declared.Held.the-variants.{Nothing, Is}
 use Rattle.octets.specs.Octets.{Octets}
 use Rattle.octets.proofs.Bools.{by-cond, and-l, and-r}
-use Rattle.frame_writer.specs.Plain.{every, plainBody}
+use Rattle.octets.specs.Tests.{every}
+use Rattle.frame_writer.specs.Plain.{plainBody}
 use Rattle.theorems_frame.proofs.Informing.{fitPart, plain-parts}
 use Rattle.theorems_frame.proofs.Fitting.{FitsBody, shown-fits}
 use Rattle.link_peer.specs.Peers.{isHeld, keptFrom, recordFrom}

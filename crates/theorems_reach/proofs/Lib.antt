@@ -21,5 +21,6 @@ pub mod Moving
 pub mod InSendAny
 pub mod Beginning
 pub mod Saying
+pub mod Responding
 pub mod Owed
 pub mod Witness

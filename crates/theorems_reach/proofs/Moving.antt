@@ -26,7 +26,7 @@ use Rattle.link_end.specs.Parts.{withLink, noPeer, discoveryOf, settled, faulte
 use Rattle.link_end.specs.Taking.{learned, acted, taken}
 use Rattle.link_end.specs.Ticking.{missed, ticked}
 use Rattle.link_end.specs.Reporting.{linkUp, linkDown, reported}
-use Rattle.theorems_reach.specs.Machine.{Request, start, stop, variables, notify, tell, Input, report, Call, askedOf, outcomeOf}
+use Rattle.theorems_reach.specs.Machine.{Request, start, stop, variables, notify, tell, respond, Input, report, Call, askedOf, outcomeOf}
 use Rattle.theorems_reach.specs.Moving.{SettlesIn, entersBy, entersFault, movesFrom}
 use Rattle.theorems_reach.proofs.Keeping.{by-taken}
 use Rattle.theorems_reach.proofs.Losing.{Footing, footingOf, rests}
@@ -110,6 +110,7 @@ module _ (e : End) where
   asked-borne (variables ds) = same e
   asked-borne (notify vs) = same e
   asked-borne (tell oui x) = same e
+  asked-borne (respond ns vs ds) = same e
 
   becomes-borne : (i : Input) (x : End) → Becomes e i x → BorneBy (cond (entersBy i e) Fault (discoveryOf e)) x
   becomes-borne i x ticks = ticked-borne

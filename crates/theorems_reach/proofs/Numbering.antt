@@ -17,7 +17,7 @@ use Rattle.link_end.specs.declared.Taken.{Taken}
 use Rattle.link_end.specs.Sending.{octetChanged, dues, sends, sent}
 use Rattle.link.specs.Outcomes.{outcome, concluded}
 use Rattle.link_end.specs.Granting.{granted}
-use Rattle.theorems_reach.specs.Machine.{Request, start, stop, variables, notify, tell, Input, tick, report, receive, request, Call, outcomeOf, meant}
+use Rattle.theorems_reach.specs.Machine.{Request, start, stop, variables, notify, tell, respond, Input, tick, report, receive, request, Call, outcomeOf, meant}
 use Rattle.theorems_reach.proofs.Coming.{Made, ticks, reports, hears, duesAfter, Concludes, Comes, refuses, concludes, grants, comes}
 use Rattle.theorems_reach.proofs.Staying.{Lasting, numberBy, made-stays, asked-stays}
 
@@ -69,6 +69,7 @@ isNotify (request stop) = false
 isNotify (request (variables ds)) = false
 isNotify (request (notify vs)) = true
 isNotify (request (tell oui x)) = false
+isNotify (request (respond ns vs ds)) = false
 
 -- a notification that is granted
 abbrev pub notifies : Call → End → Bool
@@ -88,6 +89,7 @@ number-by stop n = refl
 number-by (variables ds) n = refl
 number-by (notify vs) n = refl
 number-by (tell oui x) n = refl
+number-by (respond ns vs ds) n = refl
 
 numbers : (c : Call) (e : End) → Comes c e → Numbers c e
 unfolding granted dues

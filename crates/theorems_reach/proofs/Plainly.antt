@@ -36,6 +36,7 @@ use Rattle.link_end.specs.declared.End.{End}
 use Rattle.link_end.specs.Parts.{discoveryOf}
 use Rattle.link_end.specs.Sending.{flagsToSend, tlvsToSend}
 use Rattle.link.specs.Outcomes.{informationToSend}
+use Rattle.link.specs.Requests.{Asked, octetsAsked}
 use Rattle.link_end.specs.Ranges.{recordFits}
 use Rattle.theorems_reach.specs.Premises.{Accepted}
 use Rattle.theorems_reach.proofs.Standing.{Stands}
@@ -153,7 +154,11 @@ module _ (e : End) (s : Stands e) where
       let ps = partsOf (tlvsToSend e) in
       omega (arith, length-encode (informationToSend e) tlvs-plain, plain-parts ps tlvs-plain .few)
 
--- ---- a request's frame is as long as its body was measured, and has a plain form where that is not 0
+-- ---- a request's frame is as long as it was measured, and has a plain form where that is not 0
+
+-- a request's frame has the octets of its body's, or 0
+pub asked-sized : (a : Asked) → 0 < octetsAsked a → octetsAsked a ≡ sized (a .body)
+asked-sized a h = whether (a .formed) (λ t. rw t) (λ f. let z : octetsAsked a ≡ 0 = rw f in absurd (omega arith))
 
 pub sized-is-plain : (b : Body) → 0 < sized b → plainBody b ≡ true
 unfolding sized

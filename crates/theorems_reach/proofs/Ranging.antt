@@ -24,7 +24,7 @@ use Rattle.link_end.specs.Sending.{octetChanged, allowed, faultFlagOf, dues, se
 use Rattle.link.specs.Outcomes.{concluded}
 use Rattle.link_end.specs.Granting.{granted}
 use Rattle.link_end.specs.Ranges.{idle, ranged}
-use Rattle.theorems_reach.specs.Machine.{Request, start, stop, variables, notify, tell, Input, Call, askedOf, outcomeOf}
+use Rattle.theorems_reach.specs.Machine.{Request, start, stop, variables, notify, tell, respond, Input, Call, askedOf, outcomeOf}
 use Rattle.theorems_reach.specs.Runs.{after}
 use Rattle.theorems_reach.specs.Premises.{Accepted, OfOctets, AllOfOctets}
 use Rattle.theorems_reach.proofs.Coming.{Made, duesAfter, Comes, refuses, concludes, grants, comes}
@@ -84,6 +84,7 @@ asked-stands stop e s = s
 asked-stands (variables ds) e s = s
 asked-stands (notify vs) e s = renumbered s (s .revision) (wraps (e .own .number))
 asked-stands (tell oui x) e s = s
+asked-stands (respond ns vs ds) e s = s
 
 pub asked-any : (q : Request) (e : End) → inAny (askedOf q e .next) ≡ inAny e
 unfolding inAny discoveryOf
@@ -92,6 +93,7 @@ asked-any stop e = refl
 asked-any (variables ds) e = refl
 asked-any (notify vs) e = refl
 asked-any (tell oui x) e = refl
+asked-any (respond ns vs ds) e = refl
 
 granted-ranged : (before e : End) → Ranged (dues before false e) → Ranged (granted before e)
 unfolding granted dues inAny allowed discoveryOf faultFlagOf

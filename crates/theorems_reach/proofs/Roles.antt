@@ -26,7 +26,7 @@ use Rattle.link_end.specs.Parts.{discoveryOf, inAny, settled, faulted}
 use Rattle.link_end.specs.Taking.{known, learned, obeysCommand, obeyed, roleAfter, acted, takenUp, taken}
 use Rattle.link_end.specs.Ticking.{missed, ticked}
 use Rattle.link_end.specs.Reporting.{linkUp, linkDown, reported}
-use Rattle.theorems_reach.specs.Machine.{Input, Request, start, stop, variables, notify, tell, askedOf}
+use Rattle.theorems_reach.specs.Machine.{Input, Request, start, stop, variables, notify, tell, respond, askedOf}
 use Rattle.theorems_reach.proofs.Coming.{Made, ticks, reports, hears}
 use Rattle.theorems_reach.proofs.Standing.{Fits}
 use Rattle.link_end.specs.Hearing.{heardOf}
@@ -136,3 +136,4 @@ asked-fits stop e p h = and-l (bit 0 (e .settings .configuration)) (stops (e .ro
 asked-fits (variables ds) e p h = h
 asked-fits (notify vs) e p h = h
 asked-fits (tell oui x) e p h = h
+asked-fits (respond ns vs ds) e p h = h

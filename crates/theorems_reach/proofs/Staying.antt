@@ -23,7 +23,7 @@ use Rattle.link_end.specs.Ticking.{missed, ticked}
 use Rattle.link_end.specs.Reporting.{linkUp, linkDown, reported}
 use Rattle.link_end.specs.Taking.{learned, acted, taken}
 use Rattle.link_end.specs.Granting.{granted}
-use Rattle.theorems_reach.specs.Machine.{Request, start, stop, variables, notify, tell, Input, tick, report, receive, request, Call, askedOf, outcomeOf}
+use Rattle.theorems_reach.specs.Machine.{Request, start, stop, variables, notify, tell, respond, Input, tick, report, receive, request, Call, askedOf, outcomeOf}
 use Rattle.theorems_reach.specs.Runs.{after}
 use Rattle.theorems_reach.proofs.Coming.{Made, ticks, reports, hears, duesAfter, Comes, refuses, concludes, grants, comes}
 use Rattle.theorems_reach.proofs.Keeping.{by-taken}
@@ -42,6 +42,7 @@ numberBy stop n = n
 numberBy (variables ds) n = n
 numberBy (notify vs) n = following n
 numberBy (tell oui x) n = n
+numberBy (respond ns vs ds) n = n
 
 -- what lasts of an end
 pub record Lasting : Type 0 where
@@ -95,6 +96,7 @@ asked-stays stop e = refl
 asked-stays (variables ds) e = refl
 asked-stays (notify vs) e = refl
 asked-stays (tell oui x) e = refl
+asked-stays (respond ns vs ds) e = refl
 
 -- ---- the settings
 

@@ -3,10 +3,9 @@
 use Prim.Native.Nat.{ℕ, _<_, _≤_}
 use mathlib.Core.Path.{_≡_, sym, ap, _∙_}
 use mathlib.Core.List.{List}
-use mathlib.Core.Bool.{true, false, and-false}
+use mathlib.Core.Bool.{true, false, not, _||_, and-false}
 use borrow.Author.Tests.{ltb-false, lt-ltb, le-ltb}
 use lib.ListN.{length}
-use Rattle.frame_writer.specs.Plain.{sized}
 use Rattle.octets.proofs.Bools.{never, not-both, whether}
 use Rattle.link_limit.specs.Tests.{fitsBoth, requestAnswer}
 use Rattle.link_peer.specs.Peers.{peerMaximum}
@@ -18,7 +17,7 @@ use Rattle.link.specs.declared.Outcome.{Outcome}
 use Rattle.link_end.specs.Parts.{discoveryOf, inAny}
 use Rattle.link_end.specs.Sending.{faultFlagOf, flagsToSend, allowed, changed, dues, sends, sent}
 use Rattle.link_end.specs.Granting.{answerTo, decided}
-use Rattle.link.specs.Requests.{concludedRequest, asks}
+use Rattle.link.specs.Requests.{octetsAsked, concludedRequest, requestOf}
 use Rattle.theorems_reach.specs.Machine.{Request, request, Input, Call, askedOf, outcomeOf}
 use Rattle.theorems_reach.proofs.Coming.{duesAfter, Concludes, Comes, refuses, concludes, grants, comes}
 use Rattle.theorems_reach.proofs.Refusing.{concludes-0}
@@ -83,10 +82,10 @@ owed-full c e h =
 -- ---- a request for it
 
 pub eleventh-13 : (q : Request) (out : List ℕ) (e : End)
-    → 0 < sized (askedOf q e .body) → inAny e ≡ true → askedOf q e .permitted ≡ true
-    → fitsBoth (sized (askedOf q e .body)) (e .settings .size) (peerMaximum (e .peer .held)) ≡ true
+    → 0 < octetsAsked (askedOf q e) → inAny e ≡ true → askedOf q e .permitted ≡ true
+    → (not (askedOf q e .measured) || fitsBoth (octetsAsked (askedOf q e)) (e .settings .size) (peerMaximum (e .peer .held))) ≡ true
     → mostFrames ≤ e .meter .written
     → outcomeOf (record { input = request q; out = out }) e .answer ≡ 13
-unfolding asks concludedRequest decided answerTo requestAnswer
+unfolding requestOf concludedRequest decided answerTo requestAnswer
 eleventh-13 q out e formed any permitted fits h =
-    rw (lt-ltb 0 (sized (askedOf q e .body)) formed, any, permitted, fits, full (e .meter) h)
+    rw (lt-ltb 0 (octetsAsked (askedOf q e)) formed, any, permitted, fits, full (e .meter) h)

@@ -5,13 +5,15 @@ use Prim.Native.Nat.{ℕ, _*_}
 use mathlib.Core.Path.{_≡_, refl}
 use mathlib.Core.List.{List, [], _∷_, _++_}
 use mathlib.Core.Bool.{true}
-use lib.ListN.{replicate}
+use lib.ListN.{take, drop, replicate}
 use Rattle.frame.specs.Flags.{flagsNumber}
 use Rattle.frame.specs.Frame.{Body, information, loopback, headerAnswer, bodyAnswer, decode}
 use Rattle.frame_body.specs.Information.{local, informationAt, informationStep, informationWalk}
 use Rattle.frame_tlvs.specs.Tlvs.{tlvAt, markAt}
 use Rattle.frame_tlvs.specs.Walk.{walk}
 use Rattle.frame_body.specs.declared.Information.{Information}
+use Rattle.frame_variables.specs.Attributes.{formedAttributes}
+use Rattle.frame_variables.specs.Answers.{formedAnswers}
 use Rattle.frame_writer.specs.Encode.{headerOctets, informationOctets, encode}
 use Rattle.frame_writer.specs.Plain.{plainFlags, plainInformation, plain, sized}
 use Rattle.frame_writer.specs.Writing.{writes, written, messageOf}
@@ -19,7 +21,7 @@ use Rattle.link_limit.specs.Tests.{requestAnswer}
 use Rattle.octets.specs.Bits.{bit}
 use Rattle.link_limit.specs.Limit.{hasRoom, chargedMeter, closes, turnedMeter}
 use Rattle.link_loopback.specs.Loopback.{roleAfterLocal, obeys, mayStart, mayStop}
-use Rattle.link_peer.specs.Peers.{hasAll, satisfies, satisfied, peerActive, peerLoopback, peerMaximum, keptFrom}
+use Rattle.link_peer.specs.Peers.{hasAll, satisfies, satisfied, peerActive, peerLoopback, mayRespond, peerMaximum, keptFrom}
 use Rattle.link_peer.specs.Ranges.{sound}
 use Rattle.link_discovery.specs.Sending.{remoteField, faultFlag, ownInformation, clearedInformation, clearedRecord}
 use Rattle.link_peer.specs.declared.Settings.{Settings}
@@ -30,20 +32,20 @@ use Rattle.link_end.specs.Taking.{learned, obeysCommand, obeyed, roleAfter, act
 use Rattle.link.specs.Hearing.{concludedHeard, concludedHeardOutput, receiveOf, receiveOutput}
 use Rattle.link_end.specs.Reporting.{linkUp, linkDown, reportedDue}
 use Rattle.link.specs.Reports.{reportOf, reportOutput}
-use Rattle.link_end.specs.Granting.{answerTo, granted, decided}
-use Rattle.link.specs.Requests.{requestToSend, concludedRequest, concludedRequestOutput, asks, asksOutput}
+use Rattle.link_end.specs.Granting.{answerTo, granted, decided, smallerMaximum}
+use Rattle.link.specs.Requests.{requestToSend, concludedRequest, concludedRequestOutput, requestOf, requestOutput}
 use Rattle.link_end.specs.Sending.{faultFlagOf, flagsToSend, allowed, tlvsToSend, changed, dues, sends, sent}
 use Rattle.link.specs.Outcomes.{informationToSend, concluded, concludedOutput}
 use Rattle.link_end.specs.Parts.{freshEnd, discoveryOf, inAny, faulted, settled}
 use Rattle.link_end.specs.Ticking.{missed, ticked, tickedDue}
 use Rattle.link.specs.Ticks.{tickOf, tickOutput}
-use Rattle.theorems_reach.specs.Machine.{Input, tick, report, receive, request, start, tell, Call, outcomeOf}
+use Rattle.theorems_reach.specs.Machine.{Input, tick, report, receive, request, start, tell, respond, Call, outcomeOf, frameOf}
 use Rattle.theorems_reach.specs.Runs.{after, history}
 use Rattle.theorems_reach.specs.Seconds.{framesIn}
 
 -- all definitions of the machine, opened at once
 unfoldable pub machine : Unit {0}
-unfolding flagsNumber headerAnswer bodyAnswer decode informationAt informationStep informationWalk tlvAt markAt walk headerOctets informationOctets encode plainFlags plainInformation plain sized writes written requestAnswer bit hasRoom chargedMeter closes turnedMeter roleAfterLocal obeys mayStart mayStop hasAll satisfies satisfied peerActive peerLoopback peerMaximum keptFrom sound remoteField faultFlag ownInformation clearedInformation clearedRecord learned obeysCommand obeyed roleAfter acted isRepeat shownEvents shownOf takenUp taken takenDue concludedHeard concludedHeardOutput receiveOf receiveOutput linkUp linkDown reportedDue reportOf reportOutput answerTo granted decided requestToSend concludedRequest concludedRequestOutput asks asksOutput faultFlagOf flagsToSend allowed tlvsToSend informationToSend changed dues sends sent concluded concludedOutput freshEnd discoveryOf inAny faulted settled missed ticked tickedDue tickOf tickOutput
+unfolding flagsNumber headerAnswer bodyAnswer decode informationAt informationStep informationWalk tlvAt markAt walk headerOctets informationOctets encode plainFlags plainInformation plain sized formedAttributes formedAnswers writes written requestAnswer bit hasRoom chargedMeter closes turnedMeter roleAfterLocal obeys mayStart mayStop hasAll satisfies satisfied peerActive peerLoopback mayRespond peerMaximum keptFrom sound remoteField faultFlag ownInformation clearedInformation clearedRecord learned obeysCommand obeyed roleAfter acted isRepeat shownEvents shownOf takenUp taken takenDue concludedHeard concludedHeardOutput receiveOf receiveOutput linkUp linkDown reportedDue reportOf reportOutput answerTo granted decided smallerMaximum requestToSend concludedRequest concludedRequestOutput requestOf requestOutput faultFlagOf flagsToSend allowed tlvsToSend informationToSend changed dues sends sent concluded concludedOutput freshEnd discoveryOf inAny faulted settled missed ticked tickedDue tickOf tickOutput
 machine = tt
 
 -- an active end that may be put in loopback, and a peer of the same kind
@@ -53,8 +55,15 @@ settings = record { configuration = 5; size = 1518; oui = 1; vendor = 2; source 
 abbrev passiveSettings : Settings
 passiveSettings = record { configuration = 4; size = 1518; oui = 1; vendor = 2; source = 4; required = 4 }
 
+-- one that answers variable requests too
+abbrev answering : Settings
+answering = record { configuration = 21; size = 1518; oui = 1; vendor = 2; source = 4; required = 4 }
+
+abbrev peerOf : ℕ → Information
+peerOf configuration = record { version = 1; revision = 0; state = 0; configuration = configuration; oampdu = 1518; oui = 1; vendor = 2 }
+
 abbrev peer : Information
-peer = record { version = 1; revision = 0; state = 0; configuration = 5; oampdu = 1518; oui = 1; vendor = 2 }
+peer = peerOf 5
 
 -- 60 octets are lent
 abbrev calling : Input → Call
@@ -71,9 +80,16 @@ hears b = hearsWith 2 b
 abbrev tells : Call
 tells = calling (request (tell 1 (replicate 39 0)))
 
+-- two descriptors are answered by one attribute, of two octets
+abbrev responds : Call
+responds = calling (request (respond (0x70001 ∷ 2 ∷ []) (8 ∷ 9 ∷ []) (0x70001 ∷ 0x70002 ∷ [])))
+
 -- the link comes up, and the peer's Local TLV is heard
+abbrev meets : Information → List Call
+meets i = hears (information (local i ∷ [])) ∷ calling (report LinkUp) ∷ []
+
 abbrev met : List Call
-met = hears (information (local peer ∷ [])) ∷ calling (report LinkUp) ∷ []
+met = meets peer
 
 -- and its enable: three frames are written
 abbrev looped : List Call
@@ -115,6 +131,10 @@ pub record Witness : Type 0 where
   pub passive : outcomeOf (calling (request start)) (after passiveSettings met) .answer ≡ 15
   -- what a start leaves owed, another request does not settle
   pub owed : after settings (tells ∷ calling (request start) ∷ met) .own .owed ≡ true
+  -- what is held is answered by its value, what is not by A1; not with own bit 4 clear, nor by an active end to a passive peer
+  pub answers : take 11 (drop 18 (frameOf responds (after answering met))) ≡ 7 ∷ 0 ∷ 1 ∷ 2 ∷ 8 ∷ 9 ∷ 7 ∷ 0 ∷ 2 ∷ 0xa1 ∷ 0 ∷ []
+  pub unable : outcomeOf responds (after settings met) .answer ≡ 15
+  pub to-passive : outcomeOf responds (after answering (meets (peerOf 4))) .answer ≡ 15
 
 pub witness : Witness
 unfolding machine
@@ -134,4 +154,7 @@ witness =
       refused = refl;
       passive = refl;
       owed = refl;
+      answers = refl;
+      unable = refl;
+      to-passive = refl;
     }

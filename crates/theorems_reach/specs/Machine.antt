@@ -12,16 +12,18 @@ use Rattle.link_end.specs.Sending.{flagsToSend, tlvsToSend}
 use Rattle.link.specs.Ticks.{tickOf, tickOutput}
 use Rattle.link.specs.Hearing.{receiveOf, receiveOutput}
 use Rattle.link.specs.Reports.{reportOf, reportOutput}
-use Rattle.link.specs.Requests.{Asked, starting, stopping, requesting, notifying, telling, requestOf, requestOutput}
+use Rattle.link.specs.Requests.{Asked, starting, stopping, requesting, notifying, telling, responding, requestOf, requestOutput}
 
 -- "client requests (loopback start and stop, variable request, notification, organization specific with its OUI)": with the
--- descriptors, the events' numbers (seven an event), the OUI and the data
+-- descriptors, the events' numbers (seven an event), the OUI and the data; and "A new client request": the attributes' numbers (two
+-- an attribute), their values, and the descriptors that are asked
 pub data Request : Type 0 where
   start : Request
   stop : Request
   variables : List ℕ → Request
   notify : List ℕ → Request
   tell : ℕ → List ℕ → Request
+  respond : (attributes values descriptors : List ℕ) → Request
 
 -- "Taken: frames without FCS, 100 ms ticks, reports (...), client requests"
 pub data Input : Type 0 where
@@ -41,6 +43,7 @@ askedOf stop e = stopping e
 askedOf (variables ds) e = requesting ds e
 askedOf (notify vs) e = notifying vs e
 askedOf (tell oui x) e = telling oui x e
+askedOf (respond ns vs ds) e = responding ns vs ds e
 
 -- "Given: an outcome, the next state, at most one frame per call in a lent output, and parser and multiplexer actions"
 abbrev pub outcomeBy : Input → ℕ → End → Outcome

@@ -2,6 +2,7 @@
 //! a reason that is known without trying to write them.
 
 use super::beyond::{beyond, narrow_fields, no_event_type};
+use super::containers::{branch_0_put_in, cut_by_the_end, ended_by_zeros, past_the_end, too_many};
 use super::encode;
 use super::messages::{any_message, descriptor, event, information, Style};
 use crate::paper::{
@@ -45,7 +46,7 @@ impl MadeDraft {
 /// A draft of this code; every other one is spoilt, a few of them twice.
 pub fn any_draft(random: &mut Random, code: u8) -> MadeDraft {
     let message = any_message(random, code, Style::Plain);
-    let mut draft = Draft::of(&message).expect("a code that is written");
+    let mut draft = Draft::of(&message);
     let length = encode::plain(&message).len();
     let claim = match random.below(16) {
         0..=7 => DraftClaim::Written(message),
@@ -94,6 +95,14 @@ pub enum Fault {
     TooManyDescriptors,
     Branch0,
     BranchBeyondItsOctet,
+    /// The last container is cut off by the octets' end.
+    ContainerCut,
+    /// The last container's width runs past the octets' end.
+    WidthPastTheEnd,
+    ContainerOfBranch0,
+    /// The containers have an end behind them, which only the frame may have.
+    ContainersEnded,
+    TooManyContainers,
     NoCommand,
     TooFewData,
     TooManyData,
@@ -102,6 +111,15 @@ pub enum Fault {
 
 /// The bits of an Information TLV's fields that the plain form may use.
 const INFORMATION_BITS: [u32; NUMBERS] = [8, 16, 3, 5, 11, 24, 32];
+
+/// What can be wrong with containers.
+const CONTAINER_FAULTS: [Fault; 5] = [
+    Fault::ContainerCut,
+    Fault::WidthPastTheEnd,
+    Fault::ContainerOfBranch0,
+    Fault::ContainersEnded,
+    Fault::TooManyContainers,
+];
 
 /// All faults that drafts of a code can have.
 pub fn faults(code: u8) -> Vec<Fault> {
@@ -139,6 +157,7 @@ pub fn faults(code: u8) -> Vec<Fault> {
             Fault::Branch0,
             Fault::BranchBeyondItsOctet,
         ]),
+        code::RESPONSE => faults.extend(CONTAINER_FAULTS),
         code::LOOPBACK => faults.push(Fault::NoCommand),
         _ => faults.extend([
             Fault::TooFewData,
@@ -167,6 +186,7 @@ impl Fault {
             DraftBody::Information { local, remote } => self.befall_tlvs(random, local, remote),
             DraftBody::Notification { events, .. } => self.befall_events(random, events),
             DraftBody::Request { descriptors } => self.befall_descriptors(random, descriptors),
+            DraftBody::Response { containers } => *containers = self.containers(random),
             DraftBody::Loopback { command } => {
                 *command = match random.below(3) {
                     0 => 0,
@@ -206,7 +226,7 @@ impl Fault {
         match self {
             Fault::NoEvent => events.clear(),
             Fault::TooManyEvents => {
-                let count = too_many(random, PLAIN_EVENTS);
+                let count = more_than(random, PLAIN_EVENTS);
                 *events = (0..count).flat_map(|_| good_event(random)).collect();
             }
             Fault::NoWholeEvent => {
@@ -235,7 +255,7 @@ impl Fault {
         match self {
             Fault::NoDescriptor => descriptors.clear(),
             Fault::TooManyDescriptors => {
-                let count = too_many(random, PLAIN_DESCRIPTORS);
+                let count = more_than(random, PLAIN_DESCRIPTORS);
                 *descriptors = (0..count).map(|_| descriptor(random).number()).collect();
             }
             Fault::Branch0 => put(random, descriptors, leaf),
@@ -243,6 +263,16 @@ impl Fault {
                 let branch = beyond(random, 8, 16) as u32;
                 put(random, descriptors, branch << 16 | leaf);
             }
+        }
+    }
+
+    fn containers(self, random: &mut Random) -> Vec<u8> {
+        match self {
+            Fault::ContainerCut => cut_by_the_end(random),
+            Fault::WidthPastTheEnd => past_the_end(random),
+            Fault::ContainerOfBranch0 => branch_0_put_in(random),
+            Fault::ContainersEnded => ended_by_zeros(random),
+            _ => too_many(random),
         }
     }
 
@@ -263,7 +293,7 @@ impl Fault {
 
 /// One more than `most`, some more, or so many that a count of one octet would
 /// take them for few enough.
-fn too_many(random: &mut Random, most: usize) -> usize {
+fn more_than(random: &mut Random, most: usize) -> usize {
     match random.below(8) {
         0 => random.between(most + 1, 5 * most),
         1 => 256 + random.between(1, most),

@@ -137,7 +137,7 @@ pub fn descriptor(random: &mut Random) -> Descriptor {
     }
 }
 
-fn containers(random: &mut Random) -> Vec<Container<'static>> {
+pub fn containers(random: &mut Random) -> Vec<Container<'static>> {
     let mut room = if random.one_in(12) {
         MOST_CONTAINER_OCTETS
     } else {
@@ -145,16 +145,36 @@ fn containers(random: &mut Random) -> Vec<Container<'static>> {
     };
     let mut containers = Vec::new();
     loop {
-        let container = Container {
-            descriptor: descriptor(random),
-            content: content(random),
-        };
+        let container = container(random);
         let length = 4 + value_length(&container);
         if length > room {
+            containers.extend(last_container(random, room));
             return containers;
         }
         room -= length;
         containers.push(container);
+    }
+}
+
+/// Every other time one that fills the room that is left to its last octet, if one
+/// can; the room is for less than the longest.
+fn last_container(random: &mut Random, room: usize) -> Option<Container<'static>> {
+    let content = match room.checked_sub(4)? {
+        _ if random.one_in(2) => return None,
+        0 => Content::Indication(random.octet_between(0x80, 0xFF)),
+        width => Content::Value(Cow::Owned(random.octets(width))),
+    };
+    let descriptor = descriptor(random);
+    Some(Container {
+        descriptor,
+        content,
+    })
+}
+
+pub fn container(random: &mut Random) -> Container<'static> {
+    Container {
+        descriptor: descriptor(random),
+        content: content(random),
     }
 }
 

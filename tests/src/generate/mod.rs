@@ -3,6 +3,7 @@
 //! the decoder of this package, which the decoder alone could not be.
 
 mod beyond;
+mod containers;
 mod damage;
 mod drafts;
 mod encode;

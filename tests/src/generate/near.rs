@@ -1,11 +1,13 @@
 //! Frames at the edge of the plain form.
 
+use super::containers::{branch_0_put_in, past_the_end};
 use super::valid::{loose, plain};
-use crate::paper::LONGEST;
+use super::{encode, messages};
+use crate::paper::{code, BODY, LONGEST, SHORTEST};
 use crate::random::Random;
 
 /// A plain frame, one with an octet changed, added or taken off, or now and then
-/// a loose one. Responses have no plain form but come as near to it.
+/// a loose one.
 pub fn near_plain(random: &mut Random, code: u8) -> Vec<u8> {
     let mut frame = plain(random, code).frame;
     match random.below(8) {
@@ -13,7 +15,30 @@ pub fn near_plain(random: &mut Random, code: u8) -> Vec<u8> {
         2 if frame.len() < LONGEST => frame.push(0),
         3 => drop(frame.pop()),
         4 => return loose(random, code).frame,
+        5 if code == code::RESPONSE => return near_response(random),
         _ => change_octet(random, &mut frame),
+    }
+    frame
+}
+
+/// A response that would be plain but for a branch 0 inside, or for a width that
+/// runs past the frame's end.
+fn near_response(random: &mut Random) -> Vec<u8> {
+    let message = messages::any_message(random, code::RESPONSE, messages::Style::Plain);
+    let mut frame = encode::start(&message);
+    match random.one_in(2) {
+        true => {
+            frame.extend(branch_0_put_in(random));
+            let length = frame.len().max(SHORTEST);
+            frame.resize(length, 0);
+        }
+        false => {
+            // A frame of 60 octets or more that ends with its containers.
+            while frame.len() < SHORTEST {
+                frame.truncate(BODY);
+                frame.extend(past_the_end(random));
+            }
+        }
     }
     frame
 }

@@ -2,8 +2,8 @@
 
 use super::*;
 use crate::paper::{
-    answer, answers, code, log, Body, Content, DraftBody, Information, Part, BODY, LONGEST,
-    PLAIN_EVENTS, SHORTEST, WRITTEN,
+    answer, answers, code, is_plain, list, log, Body, Content, DraftBody, Information, Part, BODY,
+    LONGEST, PLAIN_EVENTS, SHORTEST,
 };
 use std::collections::BTreeSet;
 
@@ -467,7 +467,7 @@ fn traffic_is_a_hundred_and_holds_every_kind() {
 #[test]
 fn drafts_are_written_or_refused_as_claimed() {
     let mut random = random();
-    for code in WRITTEN {
+    for code in code::ALL {
         let mut written = 0;
         let mut reached = BTreeSet::new();
         for _ in 0..4 * TIMES {
@@ -502,6 +502,48 @@ fn drafts_reach_the_counts_at_the_bounds() {
     assert!(events.is_superset(&[0, 1, one - 1, one, most - 1, most, most + 7].into()));
     assert!(descriptors.is_superset(&[0, 1, 2, 31, 32, 33].into()));
     assert!(data.is_superset(&[0, 38, 39, 40, 1493, 1494].into()));
+}
+
+#[test]
+fn response_drafts_reach_every_length_at_the_bounds() {
+    let mut random = random();
+    let mut lengths: [BTreeSet<usize>; 2] = Default::default();
+    for _ in 0..20 * TIMES {
+        let made = any_draft(&mut random, code::RESPONSE);
+        let DraftBody::Response { containers } = made.draft.body else {
+            panic!("not asked for");
+        };
+        let written = matches!(made.claim, DraftClaim::Written(_));
+        lengths[usize::from(written)].insert(containers.len());
+    }
+    let [refused, written] = lengths;
+    assert!(written.is_superset(&[0, 4, 5, 40, 41, 42, 43, 1495, 1496].into()));
+    assert!(refused.is_superset(&[1, 2, 3, 4, 1497].into()));
+    assert!(refused.iter().any(|&length| length >= 65_536));
+}
+
+#[test]
+fn near_responses_are_not_plain_for_each_reason() {
+    let mut random = random();
+    let frames: Vec<Vec<u8>> = (0..20 * TIMES)
+        .map(|_| near_plain(&mut random, code::RESPONSE))
+        .collect();
+    let some = |condition: &dyn Fn(&[u8]) -> bool| frames.iter().any(|frame| condition(frame));
+    let end = |frame: &[u8]| {
+        list(code::RESPONSE, frame)
+            .last()
+            .map_or(BODY, |last| last.next)
+    };
+    let response = |frame: &[u8]| read(frame).is_ok() && frame[17] == code::RESPONSE;
+    let zeros = |octets: &[u8]| octets.iter().all(|&octet| octet == 0);
+    assert!(some(&is_plain));
+    assert!(some(&|frame| response(frame)
+        && zeros(&frame[end(frame)..])
+        && !is_plain(frame)));
+    assert!(some(
+        &|frame| response(frame) && !zeros(&frame[end(frame)..])
+    ));
+    assert!(some(&|frame| read(frame) == Err(answer::BROKEN)));
 }
 
 #[test]

@@ -62,8 +62,7 @@ impl Layout {
     }
 }
 
-/// A frame in the plain form. A response has none, and gets zeros behind its
-/// containers like the others.
+/// A frame in the plain form.
 pub fn plain(random: &mut Random, code: u8) -> Made {
     let message = any_message(random, code, Style::Plain);
     Made {

@@ -37,6 +37,15 @@ extern "C" {
         out_len: usize,
     ) -> u64;
 
+    fn oam_write_response(
+        source: u64,
+        flags: u16,
+        containers: *const u8,
+        containers_len: usize,
+        out: *mut u8,
+        out_len: usize,
+    ) -> u64;
+
     fn oam_write_loopback(
         source: u64,
         flags: u16,
@@ -77,6 +86,13 @@ extern "C" {
         rows: *mut u64,
         rows_len: usize,
     ) -> u64;
+
+    fn oam_descriptors(
+        frame: *const u8,
+        frame_len: usize,
+        descriptors: *mut u32,
+        descriptors_len: usize,
+    ) -> u64;
 }
 
 // SAFETY, of every call below: each pointer comes from a slice that lives through
@@ -111,6 +127,10 @@ impl Library for Archive {
             DraftBody::Request { descriptors } => unsafe {
                 let (descriptors, count) = (descriptors.as_ptr(), descriptors.len());
                 oam_write_request(source, flags, descriptors, count, out, out_len)
+            },
+            DraftBody::Response { containers } => unsafe {
+                let (containers, count) = (containers.as_ptr(), containers.len());
+                oam_write_response(source, flags, containers, count, out, out_len)
             },
             DraftBody::Loopback { command } => unsafe {
                 oam_write_loopback(source, flags, *command, out, out_len)
@@ -147,5 +167,11 @@ impl Library for Archive {
         let (header, header_len) = (header.as_mut_ptr(), header.len());
         let (rows, rows_len) = (rows.as_mut_ptr(), rows.len());
         unsafe { oam_read_all(frame, frame_len, first, header, header_len, rows, rows_len) }
+    }
+
+    #[inline(always)]
+    fn descriptors(&self, frame: &[u8], descriptors: &mut [u32]) -> u64 {
+        let (descriptors, count) = (descriptors.as_mut_ptr(), descriptors.len());
+        unsafe { oam_descriptors(frame.as_ptr(), frame.len(), descriptors, count) }
     }
 }

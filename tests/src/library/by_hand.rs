@@ -27,4 +27,8 @@ impl Library for ByHand {
     fn read_all(&self, frame: &[u8], first: usize, header: &mut [u64], rows: &mut [u64]) -> u64 {
         by_hand::read_all(frame, first, header, rows)
     }
+
+    fn descriptors(&self, frame: &[u8], descriptors: &mut [u32]) -> u64 {
+        by_hand::descriptors(frame, descriptors)
+    }
 }

@@ -2,7 +2,7 @@
 
 use super::{kind, Library, HEADER, ROW};
 use crate::paper::{
-    answer, joined, list, log, read, write, Body, Draft, Listed, Message, Part, Standing,
+    answer, asked, joined, list, log, read, write, Body, Draft, Listed, Message, Part, Standing,
 };
 
 pub struct ByPaper;
@@ -45,6 +45,20 @@ impl Library for ByPaper {
         stored.for_each(|(row, room)| room.copy_from_slice(row));
         outcome(Ok(all.len()))
     }
+
+    fn descriptors(&self, frame: &[u8], descriptors: &mut [u32]) -> u64 {
+        outcome(stored_descriptors(frame, descriptors))
+    }
+}
+
+/// How many descriptors are stored.
+fn stored_descriptors(frame: &[u8], room: &mut [u32]) -> Result<usize, u8> {
+    let asked = asked(frame)?;
+    let room = room.get_mut(..asked.len()).ok_or(answer::OUTPUT)?;
+    for (place, descriptor) in room.iter_mut().zip(&asked) {
+        *place = descriptor.number();
+    }
+    Ok(asked.len())
 }
 
 /// What was written is told by its length, what was read by its count.
@@ -250,6 +264,26 @@ mod tests {
         assert_eq!(rows_into(&request, usize::MAX), (count, [OLD; 100]));
         assert_eq!(rows_into(&request, 0), (count, [OLD; 8]));
         assert_eq!(rows_into(&request, 0), (count, [OLD; 0]));
+    }
+
+    #[test]
+    fn descriptors_are_stored_all_or_none() {
+        let request = frame(2, &[7, 0, 2, 0xFF, 0xFF, 0xFF, 0, 5]);
+        let stored = |frame: &[u8], room: usize| {
+            let mut descriptors = [77; 4];
+            let outcome = ByPaper.descriptors(frame, &mut descriptors[..room]);
+            (outcome, descriptors)
+        };
+        let both = [0x07_0002, 0xFF_FFFF, 77, 77];
+        assert_eq!(stored(&request, 2), (2 * 256, both));
+        assert_eq!(stored(&request, 4), (2 * 256, both));
+        assert_eq!(stored(&request, 1), (9, [77; 4]));
+        assert_eq!(stored(&request, 0), (9, [77; 4]));
+        assert_eq!(stored(&frame(2, &[]), 0), (0, [77; 4]));
+        assert_eq!(stored(&frame(3, &[7, 0, 2, 0xA1]), 0), (10, [77; 4]));
+        assert_eq!(stored(&frame(3, &[7, 0, 2, 0x7F]), 0), (6, [77; 4]));
+        assert_eq!(stored(&frame(5, &[7, 0, 2]), 4), (5, [77; 4]));
+        assert_eq!(stored(&request[..59], 4), (1, [77; 4]));
     }
 
     #[test]

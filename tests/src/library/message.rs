@@ -216,6 +216,10 @@ mod tests {
             }
             self.count << 8
         }
+
+        fn descriptors(&self, frame: &[u8], descriptors: &mut [u32]) -> u64 {
+            ByPaper.descriptors(frame, descriptors)
+        }
     }
 
     #[test]

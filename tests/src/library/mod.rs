@@ -18,8 +18,8 @@ pub use message::{message, Unread};
 use crate::paper::Draft;
 
 /// Every function gives an outcome: the answer in its low 8 bits, and above them
-/// the length written, or of `read_all` the count of parts. The other readers have
-/// 0 there, and so has a refusal.
+/// the length written, or of `read_all` the count of parts and of `descriptors`
+/// theirs. The other readers have 0 there, and so has a refusal.
 pub trait Library {
     /// The writer of the draft's code.
     fn write(&self, draft: &Draft, out: &mut [u8]) -> u64;
@@ -39,6 +39,11 @@ pub trait Library {
     /// over, and of the others as many are stored as whole rows have room. Less room
     /// for the header is 9, before all.
     fn read_all(&self, frame: &[u8], first: usize, header: &mut [u64], rows: &mut [u64]) -> u64;
+
+    /// Stores all descriptors of a Variable Request, each as one number, and what is
+    /// behind them stays. Another code is 10, behind 1 to 8 for the frame; less room
+    /// is 9, behind 10, and stores nothing.
+    fn descriptors(&self, frame: &[u8], descriptors: &mut [u32]) -> u64;
 }
 
 /// Values that `read` stores.
@@ -64,7 +69,7 @@ pub fn answer_of(outcome: u64) -> u8 {
     outcome as u8
 }
 
-/// The length written, or the count of parts.
+/// The length written, or the count of parts or descriptors.
 pub fn length_of(outcome: u64) -> usize {
     (outcome >> 8) as usize
 }
@@ -76,6 +81,7 @@ pub fn writer_name(code: u8) -> &'static str {
         code::INFORMATION => "oam_write_information",
         code::NOTIFICATION => "oam_write_notification",
         code::REQUEST => "oam_write_request",
+        code::RESPONSE => "oam_write_response",
         code::LOOPBACK => "oam_write_loopback",
         _ => "oam_write_organization",
     }

@@ -22,7 +22,8 @@ pub const COMMAND: u8 = 8;
 /// The lent output is shorter than the frame or log line to be written, or in
 /// receive, tick and report than 60 octets.
 pub const OUTPUT: u8 = 9;
-/// A value is out of range, or what is to be written has no plain form.
+/// A value is out of range, what is to be written has no plain form, or a frame
+/// whose descriptors are asked for is no Variable Request.
 pub const VALUES: u8 = 10;
 /// A request while discovery is not in SEND_ANY.
 pub const NOT_SEND_ANY: u8 = 11;

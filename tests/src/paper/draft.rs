@@ -1,7 +1,9 @@
 //! What is to be written, in the numbers that a caller lends.
 
+use super::container::container_octets;
 use super::message::{code, Body, Descriptor, Event, Message, Part};
 use super::numbers::joined;
+use crate::compare::hex;
 use std::fmt;
 
 /// A frame to be written. Its numbers need not have a plain form.
@@ -28,6 +30,10 @@ pub enum DraftBody {
     Request {
         descriptors: Vec<u32>,
     },
+    /// The containers as they stand in a frame.
+    Response {
+        containers: Vec<u8>,
+    },
     Loopback {
         command: u8,
     },
@@ -37,19 +43,10 @@ pub enum DraftBody {
     },
 }
 
-/// The codes that are written; responses are read only.
-pub const WRITTEN: [u8; 5] = [
-    code::INFORMATION,
-    code::NOTIFICATION,
-    code::REQUEST,
-    code::LOOPBACK,
-    code::ORGANIZATION,
-];
-
 impl Draft {
-    /// The draft that says what a message says. The order of Information TLVs is
-    /// lost, and a response has no draft.
-    pub fn of(message: &Message) -> Option<Self> {
+    /// The draft that says what a message says; only the order of Information TLVs
+    /// is lost.
+    pub fn of(message: &Message) -> Self {
         let body = match &message.body {
             Body::Information(parts) => DraftBody::Information {
                 local: first(parts, |part| matches!(part, Part::Local(_))),
@@ -62,18 +59,20 @@ impl Draft {
             Body::Request(descriptors) => DraftBody::Request {
                 descriptors: descriptors.iter().map(Descriptor::number).collect(),
             },
-            Body::Response(_) => return None,
+            Body::Response(containers) => DraftBody::Response {
+                containers: container_octets(containers),
+            },
             Body::Loopback { command } => DraftBody::Loopback { command: *command },
             Body::Organization { oui, data } => DraftBody::Organization {
                 oui: joined(oui) as u32,
                 data: data.to_vec(),
             },
         };
-        Some(Draft {
+        Draft {
             source: joined(&message.source),
             flags: message.flags,
             body,
-        })
+        }
     }
 }
 
@@ -89,6 +88,7 @@ impl DraftBody {
             DraftBody::Information { .. } => code::INFORMATION,
             DraftBody::Notification { .. } => code::NOTIFICATION,
             DraftBody::Request { .. } => code::REQUEST,
+            DraftBody::Response { .. } => code::RESPONSE,
             DraftBody::Loopback { .. } => code::LOOPBACK,
             DraftBody::Organization { .. } => code::ORGANIZATION,
         }
@@ -111,6 +111,10 @@ impl fmt::Display for Draft {
                 write!(text, "number {number}, events {events:?}")
             }
             DraftBody::Request { descriptors } => write!(text, "descriptors {descriptors:06x?}"),
+            DraftBody::Response { containers } => {
+                let (count, octets) = (containers.len(), hex(containers));
+                write!(text, "{count} octets of containers {octets}")
+            }
             DraftBody::Loopback { command } => write!(text, "command {command}"),
             DraftBody::Organization { oui, data } => {
                 write!(text, "OUI {oui:06x}, {} octets of data", data.len())

@@ -2,6 +2,8 @@
 //! texts, listing and log, and the link machine.
 
 pub mod answer;
+mod attribute;
+mod container;
 mod draft;
 pub mod log;
 pub mod machine;
@@ -17,13 +19,15 @@ mod write;
 #[cfg(test)]
 pub(crate) mod tests;
 
-pub use draft::{Draft, DraftBody, WRITTEN};
+pub use attribute::{MOST_ASKED, MOST_ATTRIBUTES, NOT_SUPPORTED};
+pub use container::{container_octets, PLAIN_CONTAINER_OCTETS};
+pub use draft::{Draft, DraftBody};
 pub use message::{code, Body, Container, Content, Descriptor, Event, Information, Message, Part};
 pub use numbers::{joined, parted, NUMBERS};
 pub use part::{list, list_start, Listed, Standing, MOST_PARTS};
 pub use plain::is_plain;
 pub use read::{
-    check, read, Heading, BODY, DESTINATION, LONGEST, SHORTEST, SLOW_PROTOCOLS, SUBTYPE,
+    asked, check, read, Heading, BODY, DESTINATION, LONGEST, SHORTEST, SLOW_PROTOCOLS, SUBTYPE,
 };
 pub use text::{answers, decode, lines, listing, HEADER};
 pub use walk::{EVENTS, INFORMATION_LENGTH};

@@ -18,7 +18,6 @@ pub fn is_plain(frame: &[u8]) -> bool {
             code::LOOPBACK => ends_at(frame, BODY + 1),
             // An accepted frame has 39 to 1,493 octets of an organization's data.
             code::ORGANIZATION => true,
-            code::RESPONSE => false, // read only
             code => has_plain_list(code, frame),
         }
 }
@@ -42,6 +41,7 @@ fn has_plain_list(code: u8, frame: &[u8]) -> bool {
     let plain = match code {
         code::INFORMATION => are_plain_tlvs(&parts),
         code::NOTIFICATION => are_plain(&parts, PLAIN_EVENTS),
+        code::RESPONSE => true, // any number of containers that a frame holds, or none
         _ => are_plain(&parts, PLAIN_DESCRIPTORS),
     };
     plain && end.is_some_and(|end| ends_at(frame, end))

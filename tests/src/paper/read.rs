@@ -1,7 +1,7 @@
 //! Reading a frame: answers 1 to 5 in order, then the body in octet order.
 
 use super::answer;
-use super::message::{code, Body, Message};
+use super::message::{code, Body, Descriptor, Message};
 use super::walk;
 use std::borrow::Cow;
 
@@ -42,6 +42,14 @@ pub fn check(frame: &[u8]) -> Result<Heading, u8> {
         code: message.body.code(),
         flags: message.flags,
     })
+}
+
+/// Reads a Variable Request for its descriptors; 10 is another code.
+pub fn asked(frame: &[u8]) -> Result<Vec<Descriptor>, u8> {
+    match read(frame)?.body {
+        Body::Request(descriptors) => Ok(descriptors),
+        _ => Err(answer::VALUES),
+    }
 }
 
 /// Answers 1 to 5.

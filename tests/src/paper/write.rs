@@ -3,6 +3,7 @@
 //! layout").
 
 use super::answer;
+use super::container::{are_whole_containers, PLAIN_CONTAINER_OCTETS};
 use super::draft::{Draft, DraftBody};
 use super::numbers::NUMBERS;
 use super::read::{BODY, DESTINATION, SHORTEST, SLOW_PROTOCOLS, SUBTYPE};
@@ -47,6 +48,7 @@ fn has_plain_form(draft: &Draft) -> bool {
             DraftBody::Information { local, remote } => are_plain_tlvs(local, remote),
             DraftBody::Notification { events, .. } => are_plain_events(events),
             DraftBody::Request { descriptors } => are_plain_descriptors(descriptors),
+            DraftBody::Response { containers } => are_plain_containers(containers),
             DraftBody::Loopback { command } => matches!(command, 1 | 2),
             DraftBody::Organization { oui, data } => {
                 fits((*oui).into(), OUI_BITS) && PLAIN_DATA.contains(&data.len())
@@ -103,6 +105,12 @@ fn are_plain_descriptors(descriptors: &[u32]) -> bool {
         && branches.all(|branch| (1..=0xFF).contains(&branch))
 }
 
+/// Whole containers, or none at all. Nothing is behind them that would be read as
+/// the list's end: the writer puts that itself.
+fn are_plain_containers(containers: &[u8]) -> bool {
+    containers.len() <= PLAIN_CONTAINER_OCTETS && are_whole_containers(containers)
+}
+
 fn row(kind: u64) -> Option<&'static (usize, [usize; 6])> {
     event_row(u8::try_from(kind).ok()?)
 }
@@ -121,6 +129,7 @@ fn end_of(body: &DraftBody) -> usize {
             2 + rows.map(|(length, _)| length).sum::<usize>()
         }
         DraftBody::Request { descriptors } => 3 * descriptors.len(),
+        DraftBody::Response { containers } => containers.len(),
         DraftBody::Loopback { .. } => 1,
         DraftBody::Organization { data, .. } => 3 + data.len(),
     }
@@ -155,6 +164,7 @@ fn fill_body(body: &DraftBody, pen: &mut Pen) {
                 pen.number(descriptor.into(), 3);
             }
         }
+        DraftBody::Response { containers } => pen.octets(containers),
         DraftBody::Loopback { command } => pen.number((*command).into(), 1),
         DraftBody::Organization { oui, data } => {
             pen.number((*oui).into(), 3);

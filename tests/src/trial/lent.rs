@@ -29,6 +29,12 @@ impl Lent<u8> {
     }
 }
 
+impl Lent<u32> {
+    pub fn descriptors(random: &mut Random, length: usize) -> Self {
+        Lent::filled(random, length, |random| random.number() as u32)
+    }
+}
+
 impl Lent<u64> {
     pub fn numbers(random: &mut Random, length: usize) -> Self {
         Lent::filled(random, length, Random::number)

@@ -1,14 +1,15 @@
 //! Reading: frames of all makers, each by its header, by its header and all its
-//! parts, and by some of its parts into slices of other lengths.
+//! parts, by some of its parts into slices of other lengths, and by its descriptors
+//! alone.
 
 use super::contest::{Called, Contest};
-use super::lent::Lent;
+use super::lent::{Lent, Room};
 use super::report::{Report, Tally};
 use super::THIS_PACKAGE;
 use crate::compare::{from_difference, hex};
 use crate::generate::{any_frame, every_frame, Made};
 use crate::library::{answer_of, kind, length_of, message, ByPaper, Library, Unread, HEADER, ROW};
-use crate::paper::{answer, code, read};
+use crate::paper::{answer, asked, code, read};
 use crate::random::Random;
 
 /// Tries `frames` frames, or more where the sets that are gone through to the
@@ -86,6 +87,9 @@ struct Trial<'a> {
     /// Slices for a header, too short for `read`, and all lengths for `read_all`.
     short_headers: Tally<usize>,
     headers: Tally<usize>,
+    answers_of_descriptors: Tally<u8>,
+    /// Lengths for the descriptors of requests that have some, and the answers.
+    descriptor_rooms: Tally<(Room, u8)>,
 }
 
 impl<'a> Trial<'a> {
@@ -102,6 +106,8 @@ impl<'a> Trial<'a> {
             rooms: Tally::expecting(First::ALL.into_iter().flat_map(pairs)),
             short_headers: Tally::expecting(0..HEADER),
             headers: Tally::expecting(0..=HEADER + 1),
+            answers_of_descriptors: Tally::expecting(answer::ACCEPTED..=answer::VALUES),
+            descriptor_rooms: Tally::expecting(possible_rooms()),
         }
     }
 
@@ -112,6 +118,7 @@ impl<'a> Trial<'a> {
         let frame = &made.frame;
         self.header(frame);
         self.rows(frame);
+        self.descriptors(frame);
         self.message(frame);
         if let Ok(message) = read(frame) {
             self.codes.count(message.body.code());
@@ -190,6 +197,27 @@ impl<'a> Trial<'a> {
         called
     }
 
+    /// The descriptors into slices of every kind of length. A frame without any is
+    /// treated as if it had one.
+    fn descriptors(&mut self, frame: &[u8]) {
+        let count = asked(frame).map_or(0, |asked| asked.len());
+        for room in Room::ALL {
+            let length = room.of(&mut self.random, count.max(1));
+            let lent = Lent::descriptors(&mut self.random, length);
+            let what = || format!("{} octets {}", frame.len(), hex(frame));
+            let called = self
+                .contest
+                .call("oam_descriptors", [lent], what, |library, [room]| {
+                    library.descriptors(frame, room)
+                });
+            let answer = answer_of(called.outcome);
+            self.answers_of_descriptors.count(answer);
+            if count > 0 {
+                self.descriptor_rooms.count((room, answer));
+            }
+        }
+    }
+
     /// The whole frame through the library alone, beside `paper::read`.
     fn message(&mut self, frame: &[u8]) {
         let expected = read(frame).map_err(Unread::Refused);
@@ -224,6 +252,26 @@ impl<'a> Trial<'a> {
         report.add_many(title, &self.short_headers, usize::to_string);
         let title = "lengths of a header beside rows";
         report.add_many(title, &self.headers, usize::to_string);
+        let title = "calls of oam_descriptors";
+        report.add(title, &self.answers_of_descriptors, |answer| {
+            format!("answered {answer}")
+        });
+        let title = "lengths for descriptors of requests that have some";
+        report.add(title, &self.descriptor_rooms, |(room, answer)| {
+            format!("{room:?}, answered {answer}")
+        });
         report
     }
+}
+
+/// Enough room is 0, too little 9.
+fn possible_rooms() -> Vec<(Room, u8)> {
+    vec![
+        (Room::Exact, answer::ACCEPTED),
+        (Room::More, answer::ACCEPTED),
+        (Room::OneLess, answer::OUTPUT),
+        (Room::None, answer::OUTPUT),
+        (Room::Any, answer::ACCEPTED),
+        (Room::Any, answer::OUTPUT),
+    ]
 }

@@ -14,16 +14,28 @@ pub struct Report {
 /// How often each thing was reached that must be.
 pub struct Tally<K> {
     counts: BTreeMap<K, usize>,
+    /// How often each must be.
+    least: usize,
 }
 
 impl<K: Ord> Tally<K> {
     pub fn expecting(keys: impl IntoIterator<Item = K>) -> Self {
+        Tally::expecting_often(keys, 1)
+    }
+
+    /// Each must be reached so often.
+    pub fn expecting_often(keys: impl IntoIterator<Item = K>, least: usize) -> Self {
         let counts = keys.into_iter().map(|key| (key, 0)).collect();
-        Tally { counts }
+        Tally { counts, least }
     }
 
     pub fn count(&mut self, key: K) {
         *self.counts.entry(key).or_default() += 1;
+    }
+
+    /// How often it was reached.
+    pub fn of(&self, key: &K) -> usize {
+        self.counts.get(key).copied().unwrap_or(0)
     }
 }
 
@@ -65,9 +77,14 @@ impl Report {
     }
 
     fn add_missed<K: Ord>(&mut self, title: &str, tally: &Tally<K>, name: impl Fn(&K) -> String) {
-        for (key, _) in tally.counts.iter().filter(|(_, &count)| count == 0) {
-            self.faults
-                .push(format!("never reached: {title}: {}", name(key)));
+        let least = tally.least;
+        for (key, &count) in tally.counts.iter().filter(|(_, &count)| count < least) {
+            let mut fault = format!("never reached: {title}: {}", name(key));
+            if least > 1 {
+                let (least, count) = (grouped(least), grouped(count));
+                fault += &format!(", {least} times; it was {count}");
+            }
+            self.faults.push(fault);
         }
     }
 }
@@ -92,5 +109,17 @@ mod tests {
         report.add_many("answers", &tally, u8::to_string);
         assert_eq!(report.counts, ["answers: 2, each 1 times or more"]);
         assert!(report.faults.is_empty());
+    }
+
+    #[test]
+    fn what_came_too_seldom_is_a_fault() {
+        let mut tally = Tally::expecting_often([1, 2], 1_000);
+        (0..999).for_each(|_| tally.count(1));
+        (0..1_000).for_each(|_| tally.count(2));
+        assert_eq!([1, 2, 3].map(|key| tally.of(&key)), [999, 1_000, 0]);
+        let mut report = Report::of(&Contest::new(&ByPaper));
+        report.add("answers", &tally, u8::to_string);
+        let fault = "never reached: answers: 1, 1,000 times; it was 999";
+        assert_eq!(report.faults, [fault]);
     }
 }

@@ -3,9 +3,10 @@
 
 use super::*;
 use crate::library::{answer_of, kind, length_of, ByHand, ByPaper, Library, HEADER, ROW};
+use crate::paper::walk::next_container;
 use crate::paper::{
-    answer, code, list, log::FIELDS, Draft, DraftBody, Listed, BODY, MOST_PARTS, PLAIN_EVENTS,
-    SHORTEST,
+    answer, asked, code, list, log::FIELDS, Draft, DraftBody, Listed, BODY, MOST_PARTS,
+    PLAIN_CONTAINER_OCTETS, PLAIN_EVENTS, SHORTEST,
 };
 
 const SEED: u64 = 57;
@@ -62,6 +63,11 @@ fn each_slip_in_writing_is_found() {
         (DropsRemoteAlone, "oam_write_information"),
         (DropsFurtherEvents, "oam_write_notification"),
         (MasksBranch, "oam_write_request"),
+        (TakesEndBeforeLast, "oam_write_response"),
+        (TakesEndAsLast, "oam_write_response"),
+        (DropsCutContainer, "oam_write_response"),
+        (DropsFurtherContainers, "oam_write_response"),
+        (RefusesNoContainer, "oam_write_response"),
     ] {
         let found = differing(writers, 400, slip);
         assert!(
@@ -109,6 +115,23 @@ fn each_slip_in_reading_is_found() {
                 "{slip:?} in {function}: {found:?}"
             );
         }
+    }
+}
+
+#[test]
+fn each_slip_in_reading_descriptors_is_found() {
+    for slip in [
+        Slip::StoresBeforeRoom,
+        Slip::StoresBehindDescriptors,
+        Slip::StoresWhatHasRoom,
+        Slip::TakesOtherCodes,
+        Slip::CodeBeforeFrame,
+        Slip::RoomBeforeCode,
+        Slip::RefusesNoDescriptor,
+        Slip::CountsDescriptorsIn8Bits,
+    ] {
+        let found = differing(reading, 0, slip);
+        assert_eq!(found, ["oam_descriptors"], "{slip:?}");
     }
 }
 
@@ -164,6 +187,11 @@ enum Slip {
     DropsRemoteAlone,
     DropsFurtherEvents,
     MasksBranch,
+    TakesEndBeforeLast,
+    TakesEndAsLast,
+    DropsCutContainer,
+    DropsFurtherContainers,
+    RefusesNoContainer,
     StoresRefusedHeader,
     StoresBehindHeader,
     MasksReadFlags,
@@ -188,6 +216,14 @@ enum Slip {
     WidthBeforeStart,
     StartInBody,
     RemoteAsLocal,
+    StoresBeforeRoom,
+    StoresBehindDescriptors,
+    StoresWhatHasRoom,
+    TakesOtherCodes,
+    CodeBeforeFrame,
+    RoomBeforeCode,
+    RefusesNoDescriptor,
+    CountsDescriptorsIn8Bits,
     TakesLeadingZero,
     TakesCarriageReturn,
     TakesNoNewline,
@@ -205,6 +241,13 @@ struct Slipping(Slip);
 
 impl Library for Slipping {
     fn write(&self, draft: &Draft, out: &mut [u8]) -> u64 {
+        if let (Slip::RefusesNoContainer, DraftBody::Response { containers }) =
+            (self.0, &draft.body)
+        {
+            if containers.is_empty() {
+                return answer::VALUES.into();
+            }
+        }
         let before = out.to_vec();
         let outcome = ByPaper.write(&self.masked(draft), out);
         let (answer, length) = (answer_of(outcome), (outcome >> 8) as usize);
@@ -312,6 +355,41 @@ impl Library for Slipping {
         };
         (told as u64) << 8
     }
+
+    fn descriptors(&self, frame: &[u8], descriptors: &mut [u32]) -> u64 {
+        let outcome = ByPaper.descriptors(frame, descriptors);
+        let (answer, count) = (answer_of(outcome), length_of(outcome));
+        let is_request = frame.get(17) == Some(&code::REQUEST);
+        match (self.0, answer) {
+            (Slip::StoresBeforeRoom, answer::OUTPUT) => {
+                store_what_has_room(frame, descriptors);
+            }
+            (Slip::StoresWhatHasRoom, answer::OUTPUT) => {
+                store_what_has_room(frame, descriptors);
+                return (descriptors.len() as u64) << 8;
+            }
+            (Slip::StoresBehindDescriptors, answer::ACCEPTED) => descriptors[count..].fill(0),
+            (Slip::TakesOtherCodes, answer::VALUES) => return answer::ACCEPTED.into(),
+            (Slip::CodeBeforeFrame, answer::BROKEN) if !is_request => return answer::VALUES.into(),
+            (Slip::RoomBeforeCode, answer::VALUES) if descriptors.is_empty() => {
+                return answer::OUTPUT.into()
+            }
+            (Slip::RefusesNoDescriptor, answer::ACCEPTED) if count == 0 => {
+                return answer::VALUES.into()
+            }
+            (Slip::CountsDescriptorsIn8Bits, answer::ACCEPTED) => return outcome & 0xFFFF,
+            _ => {}
+        }
+        outcome
+    }
+}
+
+/// Stores the first descriptors of a request.
+fn store_what_has_room(frame: &[u8], room: &mut [u32]) {
+    let asked = asked(frame).expect("a request");
+    for (place, descriptor) in room.iter_mut().zip(&asked) {
+        *place = descriptor.number();
+    }
 }
 
 impl Slipping {
@@ -406,8 +484,38 @@ impl Slipping {
                     *descriptor &= 0xFF_FFFF;
                 }
             }
+            (_, DraftBody::Response { containers }) => self.shorten(containers),
             _ => {}
         }
         draft
     }
+
+    /// Leaves off the octets of containers that must be refused.
+    fn shorten(&self, containers: &mut Vec<u8>) {
+        let ends = ends_of_containers(containers);
+        let end = ends.last().copied().unwrap_or(0);
+        let behind = &containers[end..];
+        let is_ended = behind.first() == Some(&0);
+        match self.0 {
+            Slip::TakesEndBeforeLast if is_ended && behind.len() > 1 => containers.truncate(end),
+            Slip::TakesEndAsLast if behind == [0] => containers.truncate(end),
+            Slip::DropsCutContainer if !is_ended => containers.truncate(end),
+            Slip::DropsFurtherContainers if behind.is_empty() => {
+                let fits = |end: &&usize| **end <= PLAIN_CONTAINER_OCTETS;
+                let last = ends.iter().rfind(fits).copied();
+                containers.truncate(last.unwrap_or(0));
+            }
+            _ => {}
+        }
+    }
+}
+
+/// Where each whole container ends.
+fn ends_of_containers(containers: &[u8]) -> Vec<usize> {
+    let mut rest = containers;
+    let mut ends = Vec::new();
+    while let Ok(Some(_)) = next_container(&mut rest) {
+        ends.push(containers.len() - rest.len());
+    }
+    ends
 }

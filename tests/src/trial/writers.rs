@@ -8,14 +8,15 @@ use super::THIS_PACKAGE;
 use crate::compare::{from_difference, hex};
 use crate::generate::{any_draft, faults, near_plain, DraftClaim, Fault, MadeDraft};
 use crate::library::{answer_of, length_of, message, writer_name, Library, Unread};
-use crate::paper::{answer, check, code, is_plain, read, Draft, Message, LONGEST, WRITTEN};
+use crate::paper::{
+    answer, check, code, is_plain, list, read, Draft, DraftBody, Message, BODY, LONGEST,
+};
 use crate::random::Random;
 
-/// Tries `messages` drafts of every code that is written, and as many frames of
-/// every code.
+/// Tries `messages` drafts of every code, and as many frames of every code.
 pub fn writers(library: &dyn Library, seed: u64, messages: usize) -> Report {
     let mut trial = Trial::new(library, seed);
-    for code in WRITTEN {
+    for code in code::ALL {
         for _ in 0..messages {
             let made = any_draft(&mut trial.random, code);
             trial.write(&made);
@@ -46,10 +47,10 @@ impl<'a> Trial<'a> {
         Trial {
             contest: Contest::new(library),
             random: Random::new(seed),
-            answers: Tally::expecting(each_with(&WRITTEN, &ANSWERS)),
+            answers: Tally::expecting(each_with(&code::ALL, &ANSWERS)),
             faults: Tally::expecting(every_fault()),
             rooms: Tally::expecting(possible_rooms()),
-            read_back: Tally::expecting(WRITTEN),
+            read_back: Tally::expecting(code::ALL),
             written_again: Tally::expecting(plain_or_not()),
         }
     }
@@ -80,6 +81,7 @@ impl<'a> Trial<'a> {
             }
             if let (Room::Exact, DraftClaim::Written(meant)) = (room, &made.claim) {
                 self.read_back(called.lent[0].slice(), meant);
+                self.write_again(called.lent[0].slice());
             }
         }
     }
@@ -108,8 +110,8 @@ impl<'a> Trial<'a> {
         let plain = is_plain(frame);
         let code = check(frame).ok().map(|heading| heading.code);
         self.written_again.count((code, plain));
-        let mut out = Lent::octets(&mut self.random, LONGEST);
-        let again = written_again(self.contest.library, frame, out.slice_mut());
+        let mut out = [0xEE; LONGEST]; // no zeros, which a frame may end with
+        let again = written_again(self.contest.library, frame, &mut out);
         if (again == Ok(frame)) != plain {
             self.contest.note("a frame, read and written again", || {
                 let expected = if plain { "plain" } else { "not plain" };
@@ -151,8 +153,8 @@ impl<'a> Trial<'a> {
 enum NotAgain {
     /// Reading it was refused, or made no sense.
     Unread(Unread),
-    /// Responses are read only.
-    NoWriter,
+    /// A response's containers are not those that stand in the frame.
+    OtherContainers,
     /// Writing was refused.
     Refused(u8),
     /// A length beyond the output.
@@ -166,12 +168,25 @@ fn written_again<'a>(
     out: &'a mut [u8],
 ) -> Result<&'a [u8], NotAgain> {
     let message = message(library, frame).map_err(NotAgain::Unread)?;
-    let draft = Draft::of(&message).ok_or(NotAgain::NoWriter)?;
+    let draft = Draft::of(&message);
+    if let DraftBody::Response { containers } = &draft.body {
+        if is_plain(frame) && containers != containers_in(frame) {
+            return Err(NotAgain::OtherContainers);
+        }
+    }
     let outcome = library.write(&draft, out);
     match (answer_of(outcome), length_of(outcome)) {
         (answer::ACCEPTED, length) => out.get(..length).ok_or(NotAgain::Length(length)),
         (refusal, _) => Err(NotAgain::Refused(refusal)),
     }
+}
+
+/// What a caller hands to the writer of a plain response: the octets from 18 to the
+/// end of the last container.
+fn containers_in(frame: &[u8]) -> &[u8] {
+    let list = list(code::RESPONSE, frame);
+    let end = list.last().map_or(BODY, |last| last.next);
+    &frame[BODY..end]
 }
 
 /// What a writer answers.
@@ -184,7 +199,7 @@ fn each_with<A: Copy, B: Copy>(first: &[A], second: &[B]) -> Vec<(A, B)> {
 
 fn every_fault() -> Vec<(u8, Fault)> {
     let of_code = |code| faults(code).into_iter().map(move |fault| (code, fault));
-    WRITTEN.into_iter().flat_map(of_code).collect()
+    code::ALL.into_iter().flat_map(of_code).collect()
 }
 
 /// Enough room is never answered 9, too little never 0.
@@ -199,10 +214,9 @@ fn possible_rooms() -> Vec<(Room, u8)> {
     rooms
 }
 
-/// Every code plain and not plain, a response only the latter, and refused ones.
+/// Every code plain and not plain, and refused ones.
 fn plain_or_not() -> Vec<(Option<u8>, bool)> {
     let mut wanted = each_with(&code::ALL.map(Some), &[false, true]);
-    wanted.retain(|&pair| pair != (Some(code::RESPONSE), true));
     wanted.push((None, false));
     wanted
 }

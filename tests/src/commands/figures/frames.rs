@@ -6,11 +6,11 @@ use crate::commands::Outcome;
 use oam_tests::by_hand;
 use oam_tests::compare::grouped;
 use oam_tests::library::{length_of, Archive, ByPaper, Library, HEADER, ROW};
-use oam_tests::paper::{code, list_start, write, Draft, DraftBody, LONGEST, MOST_PARTS, WRITTEN};
+use oam_tests::paper::{code, list_start, write, Draft, DraftBody, LONGEST, MOST_PARTS};
 use std::hint::black_box;
 
 pub fn measure(meter: &mut impl Meter) -> Outcome {
-    for code in WRITTEN {
+    for code in code::ALL {
         measure_writer(meter, &draft(code))?;
     }
     for code in code::ALL {
@@ -21,7 +21,7 @@ pub fn measure(meter: &mut impl Meter) -> Outcome {
             measure_reader_of_all(meter, code, &frame(code)?)?;
         }
     }
-    Ok(())
+    measure_descriptors(meter, &frame(code::REQUEST)?)
 }
 
 // The frames.
@@ -52,6 +52,9 @@ pub fn draft(code: u8) -> Draft {
         code::REQUEST => DraftBody::Request {
             descriptors: (1..=32).map(|leaf| 0x07_0000 | leaf).collect(),
         },
+        code::RESPONSE => DraftBody::Response {
+            containers: [7, 0, 2, 8, 0, 0, 0, 0, 0, 0, 0x10, 0].repeat(20),
+        },
         code::LOOPBACK => DraftBody::Loopback { command: 1 },
         _ => DraftBody::Organization {
             oui: 0x00_1B21,
@@ -65,14 +68,8 @@ pub fn draft(code: u8) -> Draft {
     }
 }
 
-/// The draft's frame; for code 03 a response of twenty containers.
+/// The draft's frame.
 pub fn frame(code: u8) -> Result<Vec<u8>, String> {
-    if code == code::RESPONSE {
-        let mut frame = frame(code::LOOPBACK)?[..17].to_vec();
-        frame.push(code);
-        frame.extend([7, 0, 2, 8, 0, 0, 0, 0, 0, 0, 0x10, 0].repeat(20));
-        return Ok(frame);
-    }
     let mut out = [0; LONGEST];
     let length = write(&draft(code), &mut out)
         .map_err(|answer| format!("the draft of code {code:02X} is answered {answer}"))?;
@@ -138,6 +135,22 @@ fn measure_reader_of_all(meter: &mut impl Meter, code: u8, frame: &[u8]) -> Outc
         &format!("read all of {}", name(code)),
         || Archive.read_all(black_box(frame), 0, &mut header, &mut rows),
         || by_hand::read_all(black_box(frame), 0, &mut own_header, &mut own_rows),
+    );
+    Ok(())
+}
+
+/// One call with room for the descriptors of any frame.
+fn measure_descriptors(meter: &mut impl Meter, frame: &[u8]) -> Outcome {
+    let (mut room, mut own_room) = ([0; MOST_PARTS], [0; MOST_PARTS]);
+    let outcome = Archive.descriptors(frame, &mut room);
+    let own_outcome = by_hand::descriptors(frame, &mut own_room);
+    if outcome != own_outcome || room != own_room {
+        return Err(read_otherwise(code::REQUEST).into());
+    }
+    meter.row(
+        &format!("descriptors of {}", name(code::REQUEST)),
+        || Archive.descriptors(black_box(frame), &mut room),
+        || by_hand::descriptors(black_box(frame), &mut own_room),
     );
     Ok(())
 }

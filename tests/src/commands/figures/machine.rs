@@ -7,7 +7,7 @@ use crate::commands::Outcome;
 use oam_tests::library::machine::{packed, unpacked, Call, Machine, RECEIVED, STATE_OCTETS};
 use oam_tests::library::{Archive, ByPaper};
 use oam_tests::paper::machine::{Discovery, End, Report, Role, Settings, END_NUMBERS, SECOND};
-use oam_tests::paper::{answer, code, BODY, LONGEST};
+use oam_tests::paper::{answer, code, BODY, LONGEST, MOST_ASKED, MOST_ATTRIBUTES};
 use std::hint::black_box;
 
 /// A passive end with loopback, events and retrieval; its peer is active.
@@ -27,7 +27,6 @@ pub fn measure(meter: &mut impl Meter) -> Outcome {
     let notification = Call::Receive(frame(code::NOTIFICATION)?);
     let enable = Call::Receive(frame(code::LOOPBACK)?);
     let broken = Call::Receive(broken()?);
-    let notify = Call::Notify(EVENTS.concat());
     any.measure(meter, "tick that writes nothing", &Call::Tick, (0, 0))?;
     last.measure(
         meter,
@@ -59,9 +58,32 @@ pub fn measure(meter: &mut impl Meter) -> Outcome {
         &broken,
         (answer::BROKEN, 0),
     )?;
-    any.measure(meter, "notify of four events, granted", &notify, (0, 132))?;
+    measure_requests(meter, &any)?;
     any.measure_show(meter);
     Ok(())
+}
+
+/// A notification; all eight counters of eight; and as many answers as fit to the
+/// most that can be asked, where the most are held and none of those.
+fn measure_requests(meter: &mut impl Meter, any: &Stand) -> Outcome {
+    let notify = Call::Notify(EVENTS.concat());
+    any.measure(meter, "notify of four events, granted", &notify, (0, 132))?;
+    let counters = |count: u32| (1..=count).map(|leaf| 0x07_0000 | leaf);
+    let eight = respond(counters(8), counters(8));
+    any.measure(meter, "respond with 8 of 8", &eight, (0, 114))?;
+    let unknown = vec![0x08_0001; MOST_ASKED];
+    let full = respond(counters(MOST_ATTRIBUTES as u32), unknown.into_iter());
+    any.measure(meter, "respond with 374 of 498 x 64", &full, (0, 1514))
+}
+
+/// A response of an end that holds counters of eight octets.
+fn respond(held: impl Iterator<Item = u32>, asked: impl Iterator<Item = u32>) -> Call {
+    let attributes: Vec<u32> = held.flat_map(|counter| [counter, 8]).collect();
+    Call::Respond {
+        values: vec![0x5A; 8 * attributes.len() / 2],
+        attributes,
+        descriptors: asked.collect(),
+    }
 }
 
 /// Information whose second TLV has no room for its fields.

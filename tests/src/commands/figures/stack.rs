@@ -7,7 +7,7 @@ use oam_tests::library::machine::{Call, Machine, RECEIVED, STATE_OCTETS};
 use oam_tests::library::{writer_name, Archive, Library, HEADER, ROW};
 use oam_tests::measure::stack::PaintedStack;
 use oam_tests::paper::machine::{End, Settings, END_NUMBERS};
-use oam_tests::paper::{log, LONGEST, MOST_PARTS, WRITTEN};
+use oam_tests::paper::{code, log, LONGEST, MOST_PARTS};
 use oam_tests::random::Random;
 use std::collections::BTreeMap;
 use std::hint::black_box;
@@ -62,7 +62,7 @@ impl Depths {
 
     fn writers(&mut self) {
         let mut out = [0; LONGEST];
-        for code in WRITTEN {
+        for code in code::ALL {
             for _ in 0..INPUTS {
                 let draft = any_draft(&mut self.random, code).draft;
                 self.note(writer_name(code), || Archive.write(&draft, &mut out));
@@ -70,18 +70,26 @@ impl Depths {
         }
     }
 
-    /// Frames of every length and kind: read, read with their rows, and received by
-    /// an end with this state.
+    /// Frames of every length and kind: read, read with their rows, read for their
+    /// descriptors, and received by an end with this state.
     fn frames(&mut self, state: [u8; STATE_OCTETS]) {
         let mut frames = every_frame(&mut self.random);
         frames.extend((0..INPUTS).map(|_| any_frame(&mut self.random)));
         let (mut header, mut rows) = ([0; HEADER], [0; ROW * MOST_PARTS]);
+        let mut descriptors = [0; MOST_PARTS];
         for made in frames {
             let frame = &made.frame;
             self.note("oam_read", || Archive.read(frame, &mut header));
             let first = self.random.below(3);
             self.note("oam_read_all", || {
                 Archive.read_all(frame, first, &mut header, &mut rows)
+            });
+            let room = match self.random.below(4) {
+                0 => self.random.below(MOST_PARTS),
+                _ => MOST_PARTS,
+            };
+            self.note("oam_descriptors", || {
+                Archive.descriptors(frame, &mut descriptors[..room])
             });
             self.call(&Call::Receive(made.frame), &mut state.clone());
         }
@@ -139,7 +147,16 @@ impl Depths {
         };
         let (mut header, mut out) = ([0; RECEIVED], [0; LONGEST]);
         let out = &mut out[..room];
-        self.note(call.name(), || Archive.call(call, &mut header, state, out));
+        match call {
+            Call::Respond {
+                attributes,
+                values,
+                descriptors,
+            } => self.note(call.name(), || {
+                Archive.respond(attributes, values, descriptors, state, out)
+            }),
+            _ => self.note(call.name(), || Archive.call(call, &mut header, state, out)),
+        }
     }
 }
 

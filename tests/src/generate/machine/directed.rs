@@ -1,5 +1,6 @@
 //! Scripts for what chance would hardly find.
 
+use super::responding::responding_scripts;
 use super::wraps::{local, received};
 use crate::library::machine::Call;
 use crate::paper::machine::{configuration, Report, Settings, LOST_LINK, MOST_FRAMES, SECOND};
@@ -10,7 +11,7 @@ pub type Directed = (Settings, Vec<Call>);
 
 /// For ends of every mode: a link without a peer is lost, with and without a frame
 /// owed; one is owed while a link that is down comes up; a peer's field is kept
-/// before there is a record of it.
+/// before there is a record of it. And the scripts of responses.
 pub fn directed_scripts() -> Vec<Directed> {
     let modes = 0..=configuration::ACTIVE | configuration::UNIDIRECTIONAL;
     let each = |mode| {
@@ -22,7 +23,7 @@ pub fn directed_scripts() -> Vec<Directed> {
         ];
         calls.map(|calls| (settings(mode), calls))
     };
-    modes.flat_map(each).collect()
+    modes.flat_map(each).chain(responding_scripts()).collect()
 }
 
 /// The link is lost at a tick that does not close the second, just behind `last`.
@@ -60,7 +61,7 @@ fn flags_changed() -> Vec<Call> {
     changes.take(usize::from(MOST_FRAMES) + 1).collect()
 }
 
-fn reported(report: Report) -> Call {
+pub fn reported(report: Report) -> Call {
     Call::Report(report as u8)
 }
 

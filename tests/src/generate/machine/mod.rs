@@ -4,6 +4,9 @@
 mod directed;
 mod peer;
 mod requests;
+mod responding;
+mod response_faults;
+mod responses;
 mod script;
 mod settings;
 mod wraps;
@@ -13,6 +16,8 @@ mod tests;
 
 pub use directed::directed_scripts;
 pub use requests::any_request;
+pub use response_faults::ResponseFault;
+pub use responses::any_respond;
 pub use script::Script;
 pub use settings::{any_settings, good_settings, paired_settings, SettingsFault};
 pub use wraps::{wrapping_second, wrapping_start, WRAPPING, WRAPPING_SECONDS};

@@ -5,7 +5,7 @@ use super::peer::Peer;
 use super::requests::any_request;
 use crate::generate::any_frame;
 use crate::library::machine::Call;
-use crate::paper::machine::{Discovery, End, Report, Role, Settings, LOST_LINK};
+use crate::paper::machine::{Discovery, End, Report, Role, Settings, LOST_LINK, SMALLEST_SIZE};
 use crate::random::Random;
 
 pub struct Script {
@@ -81,7 +81,7 @@ impl Script {
             Mood::Mixed => self.mixed(random, end),
             Mood::Loopback => self.loopback(random, end),
             Mood::Flood => self.flood(random, end),
-            Mood::Silence => silence(random),
+            Mood::Silence => silence(random, end),
             Mood::Reports => Call::Report(report(random)),
             Mood::Hostile => Call::Receive(any_frame(random).frame),
         }
@@ -105,7 +105,7 @@ impl Script {
             11 => Call::Receive(self.peer.other(random)),
             12 => Call::Receive(any_frame(random).frame),
             13 if random.one_in(4) => Call::Report(report(random)),
-            _ => any_request(random),
+            _ => any_request(random, smaller_size(end)),
         }
     }
 
@@ -117,7 +117,7 @@ impl Script {
             3 | 4 if matches!(end.role, Role::Holding | Role::Ending) => Call::Stop,
             3..=5 => Call::Receive(self.peer.command(random)),
             6 | 7 => Call::Tick,
-            8 => any_request(random),
+            8 => any_request(random, smaller_size(end)),
             _ => Call::Receive(self.peer.information(random, end)),
         }
     }
@@ -128,14 +128,21 @@ impl Script {
             1 => Call::Receive(self.peer.information(random, end)),
             2 => Call::Receive(self.peer.command(random)),
             3 => Call::Report(random.octet_between(2, 5)),
-            _ => any_request(random),
+            _ => any_request(random, smaller_size(end)),
         }
     }
 }
 
-fn silence(random: &mut Random) -> Call {
+/// The smaller of both maximum sizes; the own one where no peer is known.
+fn smaller_size(end: &End) -> usize {
+    let peer = end.peer.map(|peer| peer.maximum_size());
+    let size = peer.map_or(end.settings.size, |peer| peer.min(end.settings.size));
+    size.max(SMALLEST_SIZE).into()
+}
+
+fn silence(random: &mut Random, end: &End) -> Call {
     match random.one_in(64) {
-        true => any_request(random),
+        true => any_request(random, smaller_size(end)),
         false => Call::Tick,
     }
 }

@@ -59,7 +59,7 @@ pub fn any_settings(random: &mut Random) -> (Settings, Option<SettingsFault>) {
     (settings, fault)
 }
 
-/// Settings in range: mostly of an active end that can loop.
+/// Settings in range: mostly of an active end that can loop and be asked.
 pub fn good_settings(random: &mut Random) -> Settings {
     let mut own = random.octet() & 0x1F;
     if random.one_in(2) {
@@ -67,6 +67,9 @@ pub fn good_settings(random: &mut Random) -> Settings {
     }
     if !random.one_in(4) {
         own |= configuration::LOOPBACK;
+    }
+    if random.one_in(2) {
+        own |= configuration::VARIABLE_RETRIEVAL;
     }
     let required = match random.below(3) {
         0 => random.octet() & configuration::CAPABILITIES,

@@ -2,7 +2,7 @@
 
 use super::*;
 use crate::library::machine::Call;
-use crate::paper::machine::{Discovery, End, Role};
+use crate::paper::machine::{Discovery, End, Role, Settings};
 use crate::paper::LONGEST;
 use crate::random::Random;
 use std::collections::BTreeSet;
@@ -48,6 +48,75 @@ fn most_scripts_reach_send_any_and_many_every_role() {
     }
     assert!(any > 150, "{any}");
     assert!(roles.iter().all(|&count| count > 50), "{roles:?}");
+}
+
+/// What is wrong with a response, told apart from the machine that refuses it.
+#[test]
+fn responses_are_refused_for_each_reason_alone() {
+    let mut random = Random::new(3);
+    let end = in_send_any();
+    let (mut reasons, mut granted) = (BTreeSet::new(), 0);
+    for _ in 0..4_000 {
+        let call = any_respond(&mut random, 1518);
+        let faults = faults_of(&call);
+        let answer = call.step(&end, &mut [0; LONGEST]).err();
+        assert_eq!(answer, (!faults.is_empty()).then_some(10), "{call}");
+        granted += usize::from(answer.is_none());
+        if let [fault] = faults[..] {
+            reasons.insert(fault);
+        }
+    }
+    assert!(granted > 2_000, "{granted}");
+    assert_eq!(reasons, ResponseFault::ALL.into());
+}
+
+fn faults_of(call: &Call) -> Vec<ResponseFault> {
+    let Call::Respond {
+        attributes,
+        values,
+        descriptors,
+    } = call
+    else {
+        panic!("no response: {call}");
+    };
+    ResponseFault::all_of(attributes, values, descriptors)
+}
+
+/// An end in SEND_ANY that may respond.
+fn in_send_any() -> End {
+    let settings = Settings {
+        configuration: 0x1D,
+        ..WRAPPING
+    };
+    let mut end = End::fresh(&settings).expect("in range");
+    for call in wrapping_start() {
+        stepped(&mut end, &call);
+    }
+    assert_eq!(end.discovery, Discovery::SendAny);
+    end
+}
+
+/// At sizes up to 1,518 many responses end just below, at and just above the room
+/// that there is.
+#[test]
+fn many_responses_just_fit_or_just_do_not() {
+    let mut random = Random::new(4);
+    let mut end = in_send_any();
+    for size in [64, 65, 66, 67, 100, 1517, 1518] {
+        end.settings.size = size;
+        let mut lengths = [0; 3];
+        for _ in 0..1_000 {
+            let call = any_respond(&mut random, size.into());
+            let Ok(step) = call.step(&end, &mut [0; LONGEST]) else {
+                continue;
+            };
+            let below = usize::from(size) - 4 - step.length;
+            if let Some(count) = lengths.get_mut(below) {
+                *count += 1;
+            }
+        }
+        assert!(lengths[0] > 30, "{size}: {lengths:?}");
+    }
 }
 
 #[test]

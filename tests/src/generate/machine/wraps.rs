@@ -42,12 +42,12 @@ pub fn wrapping_second() -> Vec<Call> {
     calls
 }
 
-fn second_of_ticks() -> Vec<Call> {
+pub fn second_of_ticks() -> Vec<Call> {
     vec![Call::Tick; SECOND.into()]
 }
 
 /// The flags of a peer whose discovery is complete.
-const COMPLETE: u16 = 0x0050;
+pub const COMPLETE: u16 = 0x0050;
 
 /// The peer's Local TLV.
 pub fn local() -> Body<'static> {

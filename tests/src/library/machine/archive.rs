@@ -70,6 +70,19 @@ extern "C" {
         out_len: usize,
     ) -> u64;
 
+    fn oam_respond(
+        attributes: *const u32,
+        attributes_len: usize,
+        values: *const u8,
+        values_len: usize,
+        descriptors: *const u32,
+        descriptors_len: usize,
+        state: *mut u8,
+        state_len: usize,
+        out: *mut u8,
+        out_len: usize,
+    ) -> u64;
+
     fn oam_show(state: *const u8, state_len: usize, numbers: *mut u64, numbers_len: usize) -> u64;
 }
 
@@ -107,9 +120,9 @@ impl Machine for Archive {
     }
 
     #[inline(always)]
-    fn call(&self, call: &Call, header: &mut [u64], state: &mut [u8], out: &mut [u8]) -> u64 {
-        let (state, length) = (state.as_mut_ptr(), state.len());
-        let (out, room) = (out.as_mut_ptr(), out.len());
+    fn call(&self, call: &Call, header: &mut [u64], kept: &mut [u8], output: &mut [u8]) -> u64 {
+        let (state, length) = (kept.as_mut_ptr(), kept.len());
+        let (out, room) = (output.as_mut_ptr(), output.len());
         match call {
             Call::Tick => unsafe { oam_tick(state, length, out, room) },
             Call::Report(report) => unsafe { oam_report(*report, state, length, out, room) },
@@ -131,6 +144,7 @@ impl Machine for Archive {
                 let (octets, count) = (octets.as_ptr(), octets.len());
                 oam_organization(*oui, octets, count, state, length, out, room)
             },
+            Call::Respond { .. } => respond_apart(call, kept, output),
         }
     }
 
@@ -138,5 +152,47 @@ impl Machine for Archive {
     fn show(&self, state: &[u8], numbers: &mut [u64]) -> u64 {
         let (numbers, count) = (numbers.as_mut_ptr(), numbers.len());
         unsafe { oam_show(state.as_ptr(), state.len(), numbers, count) }
+    }
+}
+
+impl Archive {
+    /// A response. It has a function of its own for those who measure the stack.
+    #[inline(always)]
+    pub fn respond(
+        &self,
+        attributes: &[u32],
+        values: &[u8],
+        descriptors: &[u32],
+        state: &mut [u8],
+        out: &mut [u8],
+    ) -> u64 {
+        unsafe {
+            oam_respond(
+                attributes.as_ptr(),
+                attributes.len(),
+                values.as_ptr(),
+                values.len(),
+                descriptors.as_ptr(),
+                descriptors.len(),
+                state.as_mut_ptr(),
+                state.len(),
+                out.as_mut_ptr(),
+                out.len(),
+            )
+        }
+    }
+}
+
+/// Not inlined as the others are: four of its arguments pass on the stack, and would
+/// stand in the frame of whoever calls any entry.
+#[inline(never)]
+fn respond_apart(call: &Call, state: &mut [u8], out: &mut [u8]) -> u64 {
+    match call {
+        Call::Respond {
+            attributes,
+            values,
+            descriptors,
+        } => Archive.respond(attributes, values, descriptors, state, out),
+        other => panic!("no response: {other}"),
     }
 }

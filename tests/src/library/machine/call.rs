@@ -22,11 +22,19 @@ pub enum Call {
         oui: u32,
         octets: Vec<u8>,
     },
+    Respond {
+        /// Two numbers an attribute: descriptor and width.
+        attributes: Vec<u32>,
+        /// The values one behind the other.
+        values: Vec<u8>,
+        /// One number a descriptor that is asked for.
+        descriptors: Vec<u32>,
+    },
 }
 
 impl Call {
     /// The names of the archive's functions.
-    pub const NAMES: [&'static str; 8] = [
+    pub const NAMES: [&'static str; 9] = [
         "oam_tick",
         "oam_report",
         "oam_receive",
@@ -35,6 +43,7 @@ impl Call {
         "oam_request",
         "oam_notify",
         "oam_organization",
+        "oam_respond",
     ];
 
     pub fn name(&self) -> &'static str {
@@ -47,11 +56,12 @@ impl Call {
             Call::Request(_) => 5,
             Call::Notify(_) => 6,
             Call::Organization { .. } => 7,
+            Call::Respond { .. } => 8,
         };
         Call::NAMES[place]
     }
 
-    /// Whether it is one of the client's five requests.
+    /// Whether it is one of the client's six requests.
     pub fn is_request(&self) -> bool {
         !matches!(self, Call::Tick | Call::Report(_) | Call::Receive(_))
     }
@@ -70,11 +80,17 @@ impl Call {
             Call::Request(descriptors) => end.variables(descriptors, out),
             Call::Notify(events) => end.notify(events, out),
             Call::Organization { oui, octets } => end.organization(*oui, octets, out),
+            Call::Respond {
+                attributes,
+                values,
+                descriptors,
+            } => end.respond(attributes, values, descriptors, out),
         }
     }
 }
 
-/// Shows every value, of an organization's data only the count.
+/// Shows every number, of an organization's data and of attributes' values only the
+/// count.
 impl fmt::Display for Call {
     fn fmt(&self, text: &mut fmt::Formatter) -> fmt::Result {
         text.write_str(self.name())?;
@@ -89,6 +105,18 @@ impl fmt::Display for Call {
             Call::Notify(events) => write!(text, " {events:?}"),
             Call::Organization { oui, octets } => {
                 write!(text, " OUI {oui:06x}, {} octets", octets.len())
+            }
+            Call::Respond {
+                attributes,
+                values,
+                descriptors,
+            } => {
+                let (count, octets) = (descriptors.len(), values.len());
+                write!(
+                    text,
+                    " attributes {attributes:x?}, {octets} octets of values, "
+                )?;
+                write!(text, "{count} descriptors {descriptors:06x?}")
             }
         }
     }

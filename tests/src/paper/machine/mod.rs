@@ -8,6 +8,7 @@ mod inputs;
 mod loopback;
 mod numbers;
 mod requests;
+mod responding;
 mod sending;
 mod settings;
 mod unmade;

@@ -1,5 +1,5 @@
-//! The client's five requests. Their refusals come in the order 10, 11, 15, 12,
-//! 13, 9, and an accepted one writes its own frame, never an owed one.
+//! The client's requests but `respond`. Their refusals come in the order 10, 11,
+//! 15, 12, 13, 9, and an accepted one writes its own frame, never an owed one.
 
 use super::loopback::{DISABLE, ENABLE};
 use super::{Discovery, End, Role, Shown, Step, MOST_FRAMES};
@@ -75,24 +75,43 @@ impl End {
         next.account(self, false);
         let mut frame = [0; LONGEST];
         let length = next.write(body, &mut frame)?; // 10, for what has no plain form
+        let peer = self.allowed_peer(allowed)?;
+        if length + FCS > self.smaller_size(&peer) {
+            return Err(answer::SIZE);
+        }
+        next.grant(&frame[..length], out)
+    }
+
+    /// The peer in SEND_ANY, else 11; 15 where it or the end does not allow it.
+    pub(super) fn allowed_peer(
+        &self,
+        allowed: impl Fn(&Information) -> bool,
+    ) -> Result<Information, u8> {
         let in_send_any = self.discovery == Discovery::SendAny;
         let peer = self.peer.filter(|_| in_send_any);
         let peer = peer.ok_or(answer::NOT_SEND_ANY)?;
-        if !allowed(&peer) {
-            return Err(answer::FORBIDDEN);
+        match allowed(&peer) {
+            true => Ok(peer),
+            false => Err(answer::FORBIDDEN),
         }
-        if length + FCS > self.settings.size.min(peer.maximum_size()).into() {
-            return Err(answer::SIZE);
-        }
+    }
+
+    /// The smaller of both maximum sizes, FCS counted.
+    pub(super) fn smaller_size(&self, peer: &Information) -> usize {
+        self.settings.size.min(peer.maximum_size()).into()
+    }
+
+    /// This end with one frame more written, or 13, then 9.
+    pub(super) fn grant(mut self, frame: &[u8], out: &mut [u8]) -> Result<Step, u8> {
         if self.written >= MOST_FRAMES {
             return Err(answer::LIMIT);
         }
-        let place = out.get_mut(..length).ok_or(answer::OUTPUT)?;
-        place.copy_from_slice(&frame[..length]);
-        next.written += 1;
+        let place = out.get_mut(..frame.len()).ok_or(answer::OUTPUT)?;
+        place.copy_from_slice(frame);
+        self.written += 1;
         Ok(Step {
-            end: next,
-            length,
+            end: self,
+            length: frame.len(),
             shown: Shown::Nothing,
         })
     }

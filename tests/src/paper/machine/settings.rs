@@ -52,4 +52,8 @@ impl Settings {
     pub fn has_loopback(&self) -> bool {
         self.configuration & configuration::LOOPBACK != 0
     }
+
+    pub fn has_retrieval(&self) -> bool {
+        self.configuration & configuration::VARIABLE_RETRIEVAL != 0
+    }
 }

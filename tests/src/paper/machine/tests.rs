@@ -5,6 +5,7 @@ mod discovery;
 mod fresh;
 mod loopback;
 mod requests;
+mod responding;
 mod sending;
 
 use super::*;

@@ -119,9 +119,27 @@ fn one_to_four_events_and_one_to_32_descriptors_are_plain() {
 }
 
 #[test]
-fn responses_are_not_plain() {
-    assert!(!plain("03"));
-    assert!(!plain("03 07 0002 01 aa"));
+fn a_response_is_plain_with_any_containers_or_none() {
+    assert!(plain("03"));
+    assert!(plain("03 07 0002 01 aa"));
+    assert!(plain("03 07 0002 80 ff ffff ff 01 0000 a1"));
+    assert!(plain(&format!("03 07 0002 00 {}", "aa".repeat(128))));
+    let most = format!("03 {}", "07 0002 a1".repeat(374)); // 1,514 octets
+    assert!(plain(&most));
+}
+
+#[test]
+fn a_response_ends_like_the_other_lists() {
+    // Containers that end at octets 58 to 61, and a zero more behind each.
+    for width in 36..=39 {
+        let value = "aa".repeat(width);
+        let list = format!("03 07 0002 {width:02x} {value}");
+        assert!(plain(&list), "{width}");
+        assert!(!plain_with(&list, &[0]), "{width}");
+    }
+    assert!(!plain("03 07 0002 01 aa 00 0001"));
+    assert!(!plain("03 00 07 0002 01 aa"));
+    assert!(!plain_with("03", &[0]));
 }
 
 #[test]
@@ -158,6 +176,6 @@ fn a_frame_is_plain_exactly_when_it_is_written_again_the_same() {
 fn written_again(frame: &[u8]) -> Option<Vec<u8>> {
     let message = read(frame).ok()?;
     let mut out = [0; LONGEST];
-    let length = write(&Draft::of(&message)?, &mut out).ok()?;
+    let length = write(&Draft::of(&message), &mut out).ok()?;
     Some(out[..length].to_vec())
 }

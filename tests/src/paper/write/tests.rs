@@ -2,7 +2,7 @@
 //! plain form.
 
 use super::*;
-use crate::paper::tests::{frame, LOCAL, REMOTE};
+use crate::paper::tests::{frame, octets, LOCAL, REMOTE};
 use crate::paper::{read, Draft};
 
 const SOURCE: u64 = 0x0200_0000_0001;
@@ -32,6 +32,11 @@ fn notification(number: u16, events: &[u64]) -> Draft {
 fn request(descriptors: &[u32]) -> Draft {
     let descriptors = descriptors.to_vec();
     draft(DraftBody::Request { descriptors })
+}
+
+fn response(containers: &str) -> Draft {
+    let containers = octets(containers);
+    draft(DraftBody::Response { containers })
 }
 
 fn loopback(command: u8) -> Draft {
@@ -145,6 +150,29 @@ fn a_request_is_its_descriptors() {
 }
 
 #[test]
+fn a_response_is_its_containers_and_zeros() {
+    for containers in ["", "07 0002 a1", "07 0002 02 aabb ff ffff ff 01 0000 01 00"] {
+        let expected = frame(&format!("03 {containers}"));
+        assert_eq!(written(&response(containers)), Ok(expected));
+    }
+    let widest = format!("07 0002 00 {}", "aa".repeat(128));
+    let expected = frame(&format!("03 {widest}"));
+    assert_eq!(expected.len(), 150);
+    assert_eq!(written(&response(&widest)), Ok(expected));
+}
+
+/// Containers that end at octets 58 to 61 of the frame.
+#[test]
+fn a_response_has_a_terminator_only_below_octet_60() {
+    for (width, length) in [(36, 60), (37, 60), (38, 60), (39, 61)] {
+        let containers = format!("07 0002 {width:02x} {}", "aa".repeat(width));
+        let frame = written(&response(&containers)).expect("plain");
+        assert_eq!(frame.len(), length, "{width}");
+        assert!(frame[22 + width..].iter().all(|&octet| octet == 0));
+    }
+}
+
+#[test]
 fn a_loopback_frame_is_its_command_and_zeros() {
     assert_eq!(written(&loopback(1)), Ok(frame("04 01")));
     assert_eq!(written(&loopback(2)), Ok(frame("04 02")));
@@ -164,12 +192,14 @@ fn what_is_written_reads_as_it_was_meant() {
         information(&LOCAL_NUMBERS, &REMOTE_NUMBERS),
         notification(65_535, &[FRAME, FRAME_SECONDS].concat()),
         request(&[0x07_0002; 32]),
+        response("07 0002 a1 07 0003 02 aabb"),
+        response(""),
         loopback(2),
         organization(0, 100),
     ] {
         let frame = written(&draft).expect("plain");
         let message = read(&frame).expect("accepted");
-        assert_eq!(Draft::of(&message), Some(draft));
+        assert_eq!(Draft::of(&message), draft);
     }
 }
 
@@ -310,6 +340,40 @@ fn a_branch_is_1_to_255() {
 }
 
 #[test]
+fn containers_are_whole_and_of_no_branch_0() {
+    for containers in [
+        "07",
+        "07 00",
+        "07 0002",
+        "07 0002 01",
+        "07 0002 03 aabb",
+        "07 0002 00 aabb",
+        "07 0002 a1 07",
+        "00",
+        "00 0002 a1",
+        "00 0000 00",
+        "07 0002 a1 00",
+        "07 0002 a1 000000",
+        "07 0002 a1 00 0002 a1",
+        "07 0002 a1 00 0002 a1 07 0002 a1",
+    ] {
+        assert!(is_refused(&response(containers)), "{containers}");
+    }
+}
+
+#[test]
+fn containers_have_1496_octets_at_most() {
+    let most = "07 0002 a1".repeat(374);
+    let frame = written(&response(&most)).expect("plain");
+    assert_eq!(frame.len(), 1514);
+    assert!(is_refused(&response(&format!("{most} 07 0002 a1"))));
+    let wide = format!("07 0002 01 aa {}", "07 0002 a1".repeat(373));
+    assert!(is_refused(&response(&wide))); // 1,497 octets
+    let many = "07 0002 a1".repeat(65_536 / 4 + 10);
+    assert!(is_refused(&response(&many)));
+}
+
+#[test]
 fn a_command_not_1_or_2_is_10() {
     for command in 0..=255 {
         let answer = written(&loopback(command)).map(|_| ());
@@ -344,6 +408,8 @@ fn an_output_shorter_than_the_frame_is_9_and_stays() {
         information(&[], &[]),
         notification(0, &FRAME.repeat(4)),
         request(&[0x07_0002; 15]),
+        response("07 0002 a1"),
+        response(&"07 0002 a1".repeat(15)),
         loopback(1),
         organization(0, 60),
     ] {
@@ -362,5 +428,6 @@ fn an_output_shorter_than_the_frame_is_9_and_stays() {
 fn ten_comes_before_9() {
     assert_eq!(write(&loopback(3), &mut []), Err(10));
     assert_eq!(write(&information(&[], &LOCAL_NUMBERS), &mut []), Err(10));
+    assert_eq!(write(&response("00"), &mut []), Err(10));
     assert_eq!(write(&organization(0, 38), &mut [0; 59]), Err(10));
 }

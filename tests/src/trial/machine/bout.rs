@@ -82,8 +82,9 @@ impl<'a> Bout<'a> {
             self.expected.slice_mut(),
             expected_out.slice_mut(),
         );
+        let given = turn.call.clone();
         let found = self.library.call(
-            &turn.call,
+            &given,
             found_header.slice_mut(),
             self.found.slice_mut(),
             found_out.slice_mut(),
@@ -92,6 +93,7 @@ impl<'a> Bout<'a> {
         differences.outcome(expected, found);
         differences.memory("the header", &expected_header, &found_header);
         differences.memory("the output", &expected_out, &found_out);
+        differences.given(&turn.call, &given);
         let accepted = Outcome::of(expected).answer == answer::ACCEPTED;
         differences.state(accepted, &before, &self.found);
         self.show(random, &mut differences);

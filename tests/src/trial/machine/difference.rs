@@ -1,6 +1,6 @@
 //! What differs between two calls, in words.
 
-use crate::library::machine::Outcome;
+use crate::library::machine::{Call, Outcome};
 use crate::paper::machine::END_NUMBERS;
 use crate::trial::contest::place_told;
 use crate::trial::lent::Lent;
@@ -77,6 +77,13 @@ impl Differences {
         if let Some(stray) = expected.stray(found) {
             let place = place_told(&stray, expected.len());
             self.0.push(format!("{what} {place}"));
+        }
+    }
+
+    /// What was lent to be read stays as it was.
+    pub fn given(&mut self, before: &Call, after: &Call) {
+        if before != after {
+            self.0.push(format!("what was to be read is now {after}"));
         }
     }
 

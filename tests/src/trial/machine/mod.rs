@@ -6,6 +6,7 @@ mod damaged;
 mod difference;
 mod happening;
 mod played;
+mod responding;
 mod unmade;
 
 #[cfg(test)]
@@ -26,6 +27,7 @@ use bout::Bout;
 use damaged::Damaged;
 use happening::{Happening, Seen};
 use played::Played;
+use responding::Responding;
 
 /// The fewest and the most calls of a script.
 const SCRIPT_CALLS: (usize, usize) = (100, 400);
@@ -33,7 +35,7 @@ const SCRIPT_CALLS: (usize, usize) = (100, 400);
 /// Makes `calls` calls in scripts, those of some directed scripts, and some on
 /// damaged states. It ends with the first difference.
 pub fn machine(library: &dyn Machine, seed: u64, calls: usize) -> Report {
-    let mut trial = Trial::new(library, seed);
+    let mut trial = Trial::new(library, seed, calls);
     let difference = trial.run(calls).err();
     trial.report(difference)
 }
@@ -53,11 +55,12 @@ struct Trial<'a> {
     happenings: Tally<Happening>,
     /// Refusals with a State octet other than 00.
     busy: Tally<(&'static str, u8)>,
+    responding: Responding,
     damaged: Damaged,
 }
 
 impl<'a> Trial<'a> {
-    fn new(library: &'a dyn Machine, seed: u64) -> Self {
+    fn new(library: &'a dyn Machine, seed: u64, calls: usize) -> Self {
         Trial {
             library,
             random: Random::new(seed),
@@ -71,6 +74,7 @@ impl<'a> Trial<'a> {
             stands: Tally::expecting(possible_stands()),
             happenings: Tally::expecting(Happening::ALL),
             busy: Tally::expecting(possible_busy()),
+            responding: Responding::new(calls),
             damaged: Damaged::new(),
         }
     }
@@ -139,9 +143,23 @@ impl<'a> Trial<'a> {
         let bout = bout.ok_or("the settings of a directed script are refused")?;
         let mut played = Played::new(self.library, *settings, bout);
         for call in calls {
+            if let Call::Respond { .. } = call {
+                self.without_room(&mut played, &call)?;
+            }
             self.turn(&mut played, Turn::with_room(call))?;
         }
         Ok(())
+    }
+
+    /// Makes a call that would write, one octet short of room.
+    fn without_room(&mut self, played: &mut Played, call: &Call) -> Result<(), String> {
+        let step = call.step(&played.end(), &mut [0; LONGEST]);
+        let Ok(length @ 1..) = step.map(|step| step.length) else {
+            return Ok(());
+        };
+        let mut turn = Turn::with_room(call.clone());
+        turn.out = length - 1;
+        self.turn(played, turn).map(drop)
     }
 
     /// Makes a call with any room.
@@ -170,6 +188,7 @@ impl<'a> Trial<'a> {
         for happening in seen.happenings() {
             self.happenings.count(happening);
         }
+        self.responding.note(&before, played.last_call(), &outcome);
         Ok(outcome.answer)
     }
 
@@ -204,6 +223,7 @@ impl<'a> Trial<'a> {
         report.add("what came of calls", &self.happenings, |happening| {
             format!("{happening:?}")
         });
+        self.responding.report(&mut report);
         self.damaged.report(&mut report);
         report
     }
@@ -236,6 +256,7 @@ fn possible_answers() -> Vec<(&'static str, u8)> {
             "oam_receive" => (0..=9).collect(),
             "oam_start" | "oam_stop" => vec![0, 9, 11, 13, 15],
             "oam_request" => vec![0, 9, 10, 11, 12, 13, 15],
+            "oam_respond" => vec![0, 9, 10, 11, 13, 15],
             _ => vec![0, 9, 10, 11, 12, 13],
         }
     };

@@ -43,6 +43,28 @@ fn each_slip_is_found() {
     }
 }
 
+/// The slips of change request (i), each in the call that it is made in.
+#[test]
+fn each_slip_in_responses_is_found_in_one() {
+    for slip in Slip::IN_RESPONSES {
+        let report = machine(&Slipping::new(slip), SEED, 60_000);
+        let [fault] = &report.faults[..] else {
+            panic!("{slip:?}: {:#?}", report.faults);
+        };
+        let told = fault.starts_with("oam_respond ") || fault.contains("\n  oam_respond ");
+        assert!(told, "{slip:?}: {fault}");
+    }
+}
+
+#[test]
+fn each_slip_in_responses_is_found_by_directed_scripts_alone() {
+    for slip in Slip::IN_RESPONSES {
+        let report = machine(&Slipping::new(slip), SEED, 0);
+        let differs = |fault: &String| !fault.starts_with("never reached: ");
+        assert!(report.faults.iter().any(differs), "{slip:?}");
+    }
+}
+
 /// A difference is told with the few calls that are needed for it.
 #[test]
 fn a_difference_is_told_with_its_script() {

@@ -135,7 +135,7 @@ fn takes(library: &dyn Machine, random: &mut Random, end: &End) -> Result<(), St
 }
 
 /// A call of each entry, and a report that is none.
-fn calls(random: &mut Random) -> [Call; 9] {
+fn calls(random: &mut Random) -> [Call; 10] {
     [
         Call::Tick,
         Call::Report(Reported::LinkUp as u8),
@@ -148,6 +148,11 @@ fn calls(random: &mut Random) -> [Call; 9] {
         Call::Organization {
             oui: 1,
             octets: vec![0; 39],
+        },
+        Call::Respond {
+            attributes: vec![0x07_0001, 2],
+            values: vec![0; 2],
+            descriptors: vec![0x07_0001],
         },
     ]
 }

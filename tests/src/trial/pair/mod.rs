@@ -197,6 +197,12 @@ impl<'a> Pair<'a> {
         })
     }
 
+    /// The smaller of both maximum sizes.
+    fn smaller_size(&self) -> usize {
+        let sizes = self.sides.each_ref().map(|side| side.settings.size);
+        sizes[0].min(sizes[1]).into()
+    }
+
     fn told(&self, fault: &str) -> String {
         let turns = self.turns.iter();
         let lines = turns.map(|(side, turn)| format!("end {side}: {turn}"));
@@ -217,7 +223,7 @@ fn act(random: &mut Random, pair: &Pair, side: usize) -> Call {
         _ if silent && !random.one_in(16) => Call::Tick,
         0..=3 => Call::Start,
         4 | 5 => Call::Stop,
-        6..=8 => any_request(random),
+        6..=8 => any_request(random, pair.smaller_size()),
         9 => Call::Report(random.octet_between(2, 5)),
         10 if random.one_in(4) => Call::Report(random.octet_between(0, 1)),
         _ => Call::Tick,

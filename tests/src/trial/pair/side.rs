@@ -34,6 +34,7 @@ pub struct Side<'a> {
 #[derive(Clone, Copy, Debug, PartialEq, Eq, PartialOrd, Ord)]
 pub enum Sight {
     FrameWritten,
+    ResponseWritten,
     FrameAccepted,
     Refused,
     SecondFull,
@@ -49,8 +50,9 @@ pub enum Sight {
 }
 
 impl Sight {
-    pub const ALL: [Sight; 13] = [
+    pub const ALL: [Sight; 14] = [
         Sight::FrameWritten,
+        Sight::ResponseWritten,
         Sight::FrameAccepted,
         Sight::Refused,
         Sight::SecondFull,
@@ -182,6 +184,10 @@ impl<'a> Side<'a> {
         let full = self.written == usize::from(MOST_FRAMES);
         let seen = [
             (Sight::FrameWritten, wrote),
+            (
+                Sight::ResponseWritten,
+                wrote && matches!(call, Call::Respond { .. }),
+            ),
             (Sight::FrameAccepted, accepted),
             (Sight::SecondFull, wrote && full),
             (Sight::SendAnyBegun, any && !was_any),

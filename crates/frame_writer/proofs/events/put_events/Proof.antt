@@ -11,7 +11,8 @@ use lib.Seq.{sets}
 use Rattle.octets.specs.Layout.{eventsStart}
 use Rattle.frame_tlvs.specs.declared.Event.{Event}
 use Rattle.frame_writer.specs.Encode.{eventOctets, joined}
-use Rattle.frame_writer.specs.Plain.{every, plainEvent, eventsLength}
+use Rattle.octets.specs.Tests.{every}
+use Rattle.frame_writer.specs.Plain.{plainEvent, eventsLength}
 use Rattle.frame_writer.specs.Writing.{eventsOf}
 use Rattle.frame_writer.proofs.Sevens.{onward, next-stored, eventful}
 use Rattle.frame_writer.proofs.events.put_events.Statement.{statement}

@@ -1,5 +1,7 @@
 //! A machine with one slip.
 
+mod responding;
+
 use crate::library::machine::{
     called, packed, shown, unpacked_with, Call, Machine, Outcome, RECEIVED, STATE_OCTETS,
 };
@@ -64,10 +66,21 @@ pub enum Slip {
     UnknownReportHasNoOctet,
     HeaderBeforeState,
     OutputBeforeReport,
+    Width128As80,
+    IndicationWithoutBit7,
+    FcsNotCounted,
+    GoesOnAfterTheFirst,
+    TwiceAtTheFirstOnly,
+    Bit3ForBit4,
+    Takes499Descriptors,
+    TakesOneValueOctetLess,
+    TakesOneValueOctetMore,
+    ResponseGives12,
+    ActiveEndAnswersAPassivePeer,
 }
 
 impl Slip {
-    pub const ALL: [Slip; 51] = [
+    pub const ALL: [Slip; 62] = [
         Slip::LosesTheLinkAt49,
         Slip::LosesTheLinkAt51,
         Slip::RefusedFrameRestartsTheCount,
@@ -119,6 +132,32 @@ impl Slip {
         Slip::UnknownReportHasNoOctet,
         Slip::HeaderBeforeState,
         Slip::OutputBeforeReport,
+        Slip::Width128As80,
+        Slip::IndicationWithoutBit7,
+        Slip::FcsNotCounted,
+        Slip::GoesOnAfterTheFirst,
+        Slip::TwiceAtTheFirstOnly,
+        Slip::Bit3ForBit4,
+        Slip::Takes499Descriptors,
+        Slip::TakesOneValueOctetLess,
+        Slip::TakesOneValueOctetMore,
+        Slip::ResponseGives12,
+        Slip::ActiveEndAnswersAPassivePeer,
+    ];
+
+    /// Those in what only a response does.
+    pub const IN_RESPONSES: [Slip; 11] = [
+        Slip::Width128As80,
+        Slip::IndicationWithoutBit7,
+        Slip::FcsNotCounted,
+        Slip::GoesOnAfterTheFirst,
+        Slip::TwiceAtTheFirstOnly,
+        Slip::Bit3ForBit4,
+        Slip::Takes499Descriptors,
+        Slip::TakesOneValueOctetLess,
+        Slip::TakesOneValueOctetMore,
+        Slip::ResponseGives12,
+        Slip::ActiveEndAnswersAPassivePeer,
     ];
 
     /// The rules that ends break which it makes or takes.
@@ -168,6 +207,9 @@ impl Machine for Slipping {
         };
         let (mut end, mut given) = (before, call.clone());
         self.prepare(&mut end, &mut given);
+        if responding::gives_12(self.slip, &end, &given) {
+            return u64::from(answer::SIZE) | u64::from(end.role.octet()) << 40;
+        }
         let mut working = packed(&end);
         let outcome = called(end, &given, header, &mut working, out);
         let mut after = unpacked_with(&working, &Breach::ALL).expect("a state");
@@ -232,6 +274,10 @@ impl Slipping {
             }
             (Slip::PassiveEndAsks, Call::Start) => {
                 end.settings.configuration |= configuration::ACTIVE;
+            }
+            (slip, call @ Call::Respond { .. }) => {
+                self.prepare_peer(end);
+                responding::prepare(slip, end, call);
             }
             (_, call) if call.is_request() => self.prepare_peer(end),
             _ => {}
@@ -369,6 +415,7 @@ impl Slipping {
                 out[39] = after.peer.map_or(0, |peer| peer.state);
             }
             (Slip::ClearsOutput, _) => out[length..].fill(0),
+            (slip, Call::Respond { .. }) => responding::stored(slip, &mut out[..length]),
             _ => {}
         }
     }

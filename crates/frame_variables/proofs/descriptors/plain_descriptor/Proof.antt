@@ -1,6 +1,6 @@
 use borrow.Author.Tests.{le-leb, lt-leb}
-use Rattle.frame_writer.proofs.requests.plain_descriptor.Statement.{statement}
-use Rattle.frame_writer.proofs.requests.plain_descriptor.Tie as tie
+use Rattle.frame_variables.proofs.descriptors.plain_descriptor.Statement.{statement}
+use Rattle.frame_variables.proofs.descriptors.plain_descriptor.Tie as tie
 
 returns : tie.Need-returns
 returns c = simp (lt-leb _ _ (c .if1 .taken))

@@ -10,9 +10,9 @@ use lib.ListN.{length, getD, drop, replicate, length-append}
 use lib.Seq.{getD-drop}
 use Rattle.frame_tlvs.specs.Walk.{Next, stop, broken, skip, has, Walk, ends, part, onNext, walk, met}
 use Rattle.octets.specs.Octets.{Octets}
+use Rattle.octets.specs.Tests.{every}
 use Rattle.frame_writer.specs.Encode.{joined}
-use Rattle.frame_writer.specs.Plain.{every}
-use Rattle.theorems_frame.specs.PlainFrame.{noneSkipped}
+use Rattle.frame_writer.specs.Plain.{noneSkipped}
 use Rattle.octets.proofs.Bools.{never, and-l, and-r}
 use Rattle.octets.proofs.Numbers.{past}
 

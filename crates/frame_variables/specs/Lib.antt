@@ -1,0 +1,4 @@
+-- What the promises of frame_variables cite, and those of the crates above.
+pub mod Descriptors
+pub mod Attributes
+pub mod Answers
