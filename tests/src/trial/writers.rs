@@ -81,7 +81,9 @@ impl<'a> Trial<'a> {
             }
             if let (Room::Exact, DraftClaim::Written(meant)) = (room, &made.claim) {
                 self.read_back(called.lent[0].slice(), meant);
-                self.write_again(called.lent[0].slice());
+                if code == code::RESPONSE {
+                    self.write_again(called.lent[0].slice());
+                }
             }
         }
     }
