@@ -46,7 +46,7 @@ fn each_slip_is_found() {
 /// The slips of change request (i), each in the call that it is made in.
 #[test]
 fn each_slip_in_responses_is_found_in_one() {
-    for slip in Slip::IN_RESPONSES {
+    for slip in Slip::in_responses() {
         let report = machine(&Slipping::new(slip), SEED, 60_000);
         let [fault] = &report.faults[..] else {
             panic!("{slip:?}: {:#?}", report.faults);
@@ -58,7 +58,7 @@ fn each_slip_in_responses_is_found_in_one() {
 
 #[test]
 fn each_slip_in_responses_is_found_by_directed_scripts_alone() {
-    for slip in Slip::IN_RESPONSES {
+    for slip in Slip::in_responses() {
         let report = machine(&Slipping::new(slip), SEED, 0);
         let differs = |fault: &String| !fault.starts_with("never reached: ");
         assert!(report.faults.iter().any(differs), "{slip:?}");

@@ -145,20 +145,11 @@ impl Slip {
         Slip::ActiveEndAnswersAPassivePeer,
     ];
 
-    /// Those in what only a response does.
-    pub const IN_RESPONSES: [Slip; 11] = [
-        Slip::Width128As80,
-        Slip::IndicationWithoutBit7,
-        Slip::FcsNotCounted,
-        Slip::GoesOnAfterTheFirst,
-        Slip::TwiceAtTheFirstOnly,
-        Slip::Bit3ForBit4,
-        Slip::Takes499Descriptors,
-        Slip::TakesOneValueOctetLess,
-        Slip::TakesOneValueOctetMore,
-        Slip::ResponseGives12,
-        Slip::ActiveEndAnswersAPassivePeer,
-    ];
+    /// Those in what only a response does: the last ones.
+    pub fn in_responses() -> impl Iterator<Item = Slip> {
+        let others = |slip: &Slip| *slip != Slip::Width128As80;
+        Slip::ALL.into_iter().skip_while(others)
+    }
 
     /// The rules that ends break which it makes or takes.
     fn breaches(self) -> &'static [Breach] {
