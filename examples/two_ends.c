@@ -117,13 +117,24 @@ static void answer(struct end *e, const struct frame *f)
     }
 }
 
+/* A response is written again of its containers as they stand in its frame, up to the octet after the last one. */
+static void write_again(const struct frame *f, const uint64_t *header, size_t end)
+{
+    uint8_t again[OAM_LONGEST_FRAME];
+    uint64_t outcome = oam_write_response(header[OAM_HEADER_SOURCE], (uint16_t)header[OAM_HEADER_FLAGS],
+                                          &f->octets[OAM_CONTAINERS_AT], end - OAM_CONTAINERS_AT, again, sizeof again);
+    must(oam_length(outcome) == f->length && memcmp(again, f->octets, f->length) == 0,
+         "a response that is read and written again has the same octets");
+}
+
 /* What a Variable Response says, each container by its row. */
 static void print_values(struct end *e, const struct frame *f)
 {
     uint64_t header[OAM_HEADER_NUMBERS], rows[3 * OAM_ROW_NUMBERS];
     uint64_t outcome = oam_read_all(f->octets, f->length, 0, header, OAM_HEADER_NUMBERS, rows, 3 * OAM_ROW_NUMBERS);
     must(oam_answer(outcome) == OAM_ACCEPTED, "a response can be read");
-    must(oam_count(outcome) <= 3, "what was asked has no more answers");
+    must(oam_count(outcome) >= 1 && oam_count(outcome) <= 3, "what was asked is answered, and no more");
+    write_again(f, header, rows[(oam_count(outcome) - 1) * OAM_ROW_NUMBERS + OAM_ROW_NEXT]);
     for (size_t row = 0; row < oam_count(outcome); row += 1) {
         const uint64_t *container = &rows[row * OAM_ROW_NUMBERS + OAM_ROW_PART];
         printf("  %-6s reads %06" PRIx64 ":", e->name, container[0]);

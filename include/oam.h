@@ -66,6 +66,9 @@ enum {
 /* Where an organization's data stand in a frame, up to the frame's end. */
 #define OAM_ORGANIZATION_AT 21
 
+/* Where the containers of a response stand in a frame, up to the octet after the last one (its OAM_ROW_NEXT). */
+#define OAM_CONTAINERS_AT 18
+
 /* Counts of numbers in a slice. */
 #define OAM_INFORMATION_NUMBERS 7 /* an Information TLV */
 #define OAM_EVENT_NUMBERS 7       /* an event */
@@ -418,7 +421,7 @@ uint64_t oam_write_request(uint64_t source, uint16_t flags, const uint32_t *desc
 
 /*
  * Writes a Variable Response frame of containers as they stand in a frame: the octets of one that was read,
- * from octet 18 to the end of its last container, or no octet for none. Out of range are more than 1,496
+ * from OAM_CONTAINERS_AT to the end of its last container, or no octet for none. Out of range are more than 1,496
  * octets, a container that is broken, and a branch 0, which would end them before their last octet.
  */
 uint64_t oam_write_response(uint64_t source, uint16_t flags, const uint8_t *containers, size_t containers_len,
