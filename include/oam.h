@@ -20,7 +20,7 @@
  * The version of what stands here and of a state's octets: it grows with every change of either. A state is
  * good for the build that made it. After an update make a fresh end (oam_fresh) and report the link.
  */
-#define OAM_VERSION 2
+#define OAM_VERSION 3
 
 #include <stddef.h>
 #include <stdint.h>
@@ -51,13 +51,13 @@ enum {
     OAM_OUT_OF_RANGE = 10,      /* settings or values out of range, or octets that are no state */
     OAM_NOT_IN_SEND_ANY = 11,   /* a request while discovery is not in SEND_ANY */
     OAM_EXCEEDS_MAXIMUM = 12,   /* frame, plus 4, exceeds the smaller of the two maximum sizes */
-    OAM_TEN_FRAMES_WRITTEN = 13, /* ten frames already written in this timer second */
+    OAM_TEN_FRAMES_WRITTEN = 13, /* ten frames written in the present tick interval and the ten before it */
     OAM_NOT_A_LINE = 14,        /* text line is not in its stated form */
     OAM_FORBIDDEN = 15          /* role, mode, own or peer's capability forbids */
 };
 
 /* Lengths in octets. */
-#define OAM_STATE_OCTETS 48    /* the state of an end */
+#define OAM_STATE_OCTETS 53    /* the state of an end */
 #define OAM_LEAST_OUT 60       /* the shortest output for a tick, a report and a received frame */
 #define OAM_SHORTEST_FRAME 60
 #define OAM_LONGEST_FRAME 1514 /* an output of this many octets is never too short for a frame */
@@ -76,7 +76,7 @@ enum {
 #define OAM_HEADER_NUMBERS 4      /* what oam_read, oam_read_all and oam_receive store of a header */
 #define OAM_ROW_NUMBERS 9         /* a row, which oam_read_all stores of each part */
 #define OAM_LINE_NUMBERS 9        /* what oam_log_read stores */
-#define OAM_SHOWN_NUMBERS 28      /* what oam_show stores */
+#define OAM_SHOWN_NUMBERS 29      /* what oam_show stores */
 
 /* The most of a thing in one frame or one call. */
 #define OAM_MOST_EVENTS 4
@@ -227,14 +227,15 @@ enum {
     OAM_NUMBER_LAST_HELD = 17,  /* whether a received event number is kept: in SEND_ANY, until FAULT */
     OAM_NUMBER_LAST = 18,       /* the last one that was kept */
     OAM_NUMBER_ROLE = 19,
-    OAM_NUMBER_TICKS = 20,          /* ticks since the timer second closed */
-    OAM_NUMBER_FRAMES_WRITTEN = 21, /* frames written since then */
+    OAM_NUMBER_TICKS = 20,          /* ticks since the last tenth one, which made an Information frame due */
+    OAM_NUMBER_FRAMES_WRITTEN = 21, /* frames written in the present tick interval and the ten before it */
     OAM_NUMBER_REVISION = 22,
     OAM_NUMBER_NEXT_EVENT = 23, /* the number that the next notification carries */
     OAM_NUMBER_DYING_GASP = 24,
     OAM_NUMBER_CRITICAL_EVENT = 25,
     OAM_NUMBER_OWED = 26, /* whether an Information frame is owed */
-    OAM_NUMBER_DISCOVERY = 27
+    OAM_NUMBER_DISCOVERY = 27,
+    OAM_NUMBER_INTERVALS = 28 /* the frames of each of 21's intervals: four bits each, the present one's lowest */
 };
 
 /*
@@ -306,10 +307,12 @@ uint64_t oam_fresh(uint8_t configuration, uint16_t size, uint32_t oui, uint32_t 
                    uint8_t required, uint8_t *state, size_t state_len);
 
 /*
- * Takes one tick of 100 ms. Writes an Information frame where one is owed and fewer than ten frames are
- * written in this timer second, and where the second closes: not in PASSIVE_WAIT, and with the link down
- * only if unidirectional. Returns an outcome: accepted, or OAM_SHORT_OUTPUT for an output under
- * OAM_LEAST_OUT octets, also where nothing would be written; the tick is not counted then.
+ * Takes one tick: 100 ms have passed since the one before, never less. It opens an interval, and every
+ * tenth makes an Information frame due. Where one is owed or due, and sending is allowed (not in
+ * PASSIVE_WAIT, and with the link down only if unidirectional), it is written if fewer than ten frames are
+ * written in this interval and the ten before it, and else waits. Returns an outcome: accepted, or
+ * OAM_SHORT_OUTPUT for an output under OAM_LEAST_OUT octets, also where nothing would be written; the tick
+ * is not counted then, and opens no interval.
  */
 uint64_t oam_tick(uint8_t *state, size_t state_len, uint8_t *out, size_t out_len);
 

@@ -112,7 +112,10 @@ const PLACES: [(&str, &str); 21] = [
     ("OAM_NUMBER_LAST", "last_number(last)"),
     ("OAM_NUMBER_ROLE", "role.number()"),
     ("OAM_NUMBER_TICKS", "link_limit::ticks(meter)"),
-    ("OAM_NUMBER_FRAMES_WRITTEN", "link_limit::written(meter)"),
+    (
+        "OAM_NUMBER_FRAMES_WRITTEN",
+        "link_limit::written_frames(meter)",
+    ),
     ("OAM_NUMBER_REVISION", "own.revision"),
     ("OAM_NUMBER_NEXT_EVENT", "own.number"),
     ("OAM_NUMBER_DYING_GASP", "bit_of(own.gasp)"),
@@ -158,9 +161,10 @@ fn the_numbers_of_an_end_stand_where_the_header_says() {
     let named = named_in_header(&header);
     let count = shown_numbers(&source).len() as u64;
     assert_eq!(named["OAM_NUMBER_DISCOVERY"], count);
-    assert_eq!(named["OAM_SHOWN_NUMBERS"], count + 1);
+    assert_eq!(named["OAM_NUMBER_INTERVALS"], count + 1);
+    assert_eq!(named["OAM_SHOWN_NUMBERS"], count + 2);
     let places = named.keys().filter(|name| name.starts_with("OAM_NUMBER_"));
-    assert_eq!(places.count(), PLACES.len() + 1, "a place has no number");
+    assert_eq!(places.count(), PLACES.len() + 2, "a place has no number");
     assert_eq!(count as usize, PLACES.len() + RECORD.len() - 1);
 }
 

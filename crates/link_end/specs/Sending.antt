@@ -58,7 +58,7 @@ changed before e = octetChanged (before .role) (e .role) || not (eqb (flagsToSen
 abbrev pub ownIn : Bool → Bool → Bool → Bool → Own → Own
 ownIn permits octet told due o = withOwed (owes permits (o .owed) due told) (withRevision (revised octet (o .revision)) o)
 
--- the revision, and what is owed, after a call that made e of `before`; `due`: a loopback command was obeyed, or a second closed
+-- the revision, and what is owed, after a call that made e of `before`; `due`: a loopback command was obeyed, or a timer second closed
 unfoldable pub dues : End → Bool → End → End
 dues before due e = withOwn (ownIn (allowed e) (octetChanged (before .role) (e .role)) (changed before e) due (e .own)) e
 

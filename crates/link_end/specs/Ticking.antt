@@ -19,11 +19,12 @@ missed e =
     (withLink (withLost (e .link .lost + 1) (e .link)) e))
     e
 
--- "After the count and the moves, every tenth tick from fresh (link down or up) closes a timer second: frames written back to 0"
+-- "After the count and the moves" a tick opens an interval, "link down or up"
 unfoldable pub ticked : End → End
 ticked e = withMeter (turnedMeter (e .meter)) (settled (missed e))
 
--- "then an Information frame if allowed. That frame belongs to the new second and settles any owed one."
+-- "every tenth tick from fresh (link down or up) closes a timer second ... then an Information frame if allowed", which "settles any
+-- owed one" and "waits, owed, until the limit allows it"
 unfoldable pub tickedDue : End → End
 tickedDue e = dues e (closes (e .meter)) (ticked e)
 

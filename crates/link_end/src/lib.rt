@@ -66,12 +66,14 @@ pub struct Own {
     pub owed: bool,
 }
 
+// The meter's numbers are as wide as the source address, so it stands beside the settings: an end is handed on by value, and is
+// copied with its gaps.
 pub struct End {
     settings: Settings,
+    meter: Meter,
     link: Link,
     peer: Peer,
     role: Role,
-    meter: Meter,
     own: Own,
 }
 

@@ -19,8 +19,8 @@ firstFailed (b ∷ bs) [] = 0
 firstFailed (b ∷ bs) (n ∷ ns) = cond b (firstFailed bs ns) n
 
 -- "settings or request values out of range" (10), "a request while discovery is not in SEND_ANY" (11), "role, mode or peer's
--- capability forbids" (15), the two sizes (12), "ten frames already written in this timer second" (13), "lent output shorter than
--- the frame ... to be written" (9)
+-- capability forbids" (15), the two sizes (12), "ten were written in the present and ten preceding intervals" (13), "lent output
+-- shorter than the frame ... to be written" (9)
 unfoldable pub requestAnswer : (formed any permitted fits room roomy : Bool) → ℕ
 requestAnswer formed any permitted fits room roomy =
     firstFailed (formed ∷ any ∷ permitted ∷ fits ∷ room ∷ roomy ∷ []) requestNumbers

@@ -5,7 +5,7 @@ use mathlib.Core.List.{List, [], _∷_, _++_}
 use native.Mathlib.Nat.{zero-add}
 use mathlib.Core.Bool.{false}
 use lib.Dec.{eqb}
-use lib.ListN.{length, set}
+use lib.ListN.{length}
 use lib.Seq.{sets}
 use Rattle.octets.proofs.Stores.{sets-append}
 use Rattle.link_end.specs.declared.End.{End}
@@ -68,6 +68,6 @@ unmade made state h = rw h (record { answers = refl; keeps = refl })
 pub fresh-made : (made : MaybeEnd) (state : List ℕ) {e : End} {state′ : List ℕ} → made ≡ Is e → state′ ≡ packedIn e state → Freshly made state 0 state′
 fresh-made made state h p = rw h (record { answers = refl; keeps = p })
 
--- a number stored after 27
-pub one-more : (l xs : List ℕ) (y : ℕ) → length xs ≡ 27 → set (sets l 0 xs) 27 y ≡ sets l 0 (xs ++ (y ∷ []))
-one-more l xs y h = sym (sets-append l 0 xs (y ∷ []) ∙ ap (λ (n : ℕ). set (sets l 0 xs) n y) (zero-add (length xs) ∙ h))
+-- numbers stored after others
+pub more-stored : (l xs ys : List ℕ) (n : ℕ) → length xs ≡ n → sets (sets l 0 xs) n ys ≡ sets l 0 (xs ++ ys)
+more-stored l xs ys n h = sym (sets-append l 0 xs ys ∙ ap (λ (k : ℕ). sets (sets l 0 xs) k ys) (zero-add (length xs) ∙ h))

@@ -114,10 +114,10 @@ pub record Receiving (call : End → Outcome) (output : End → List ℕ → Lis
 
 -- ---- what an end shows
 
--- its 27 numbers, and where discovery stands
+-- its 27 numbers, where discovery stands, and the digits of its intervals
 unfoldable pub endNumbers : End → Shown
-endNumbers e = shows 0 (numbersOf e ++ (standingNumber (discoveryOf e) ∷ []))
+endNumbers e = shows 0 (numbersOf e ++ (standingNumber (discoveryOf e) ∷ e .meter .intervals ∷ []))
 
 abbrev pub endShown : MaybeEnd → ℕ → Shown
 endShown (Refused n) room = shows n []
-endShown (Is e) room = roomy 28 9 room (endNumbers e)
+endShown (Is e) room = roomy 29 9 room (endNumbers e)

@@ -127,20 +127,21 @@ pub extern "C" fn oam_receive(
     }
 }
 
-// The 27 numbers of an end, and where discovery stands.
+// The 27 numbers of an end, where discovery stands, and the digits of its intervals.
 fn show_end(lent: &mut [u64], e: End) -> u64
-    requires { ⌜ 28 ≤ length (now lent) ⌝ }
+    requires { ⌜ 29 ≤ length (now lent) ⌝ }
     ensures { λ r. ⌜ Showing (endNumbers e) (now (lent .entry)) r (now (lent .exit)) ⌝ }
 {
     let numbers = oam_numbers::numbers_of(e);
     let answer = show(lent, 0, &numbers);
     lent[27] = link_end::discovery_of(e).number() as u64;
+    lent[28] = link_limit::intervals(e.meter());
     answer
 }
 
-// Shows an end: its 27 numbers in the order in which it is packed, and then where discovery stands: 0 FAULT, 1
-// ACTIVE_SEND_LOCAL, 2 PASSIVE_WAIT, 3 SEND_LOCAL_REMOTE, 4 SEND_LOCAL_REMOTE_OK, 5 SEND_ANY. Fewer than 28 numbers lent
-// is 9.
+// Shows an end: the 27 numbers of its parts in their order, then where discovery stands: 0 FAULT, 1
+// ACTIVE_SEND_LOCAL, 2 PASSIVE_WAIT, 3 SEND_LOCAL_REMOTE, 4 SEND_LOCAL_REMOTE_OK, 5 SEND_ANY; and then the frames of each of the
+// newest eleven intervals, as digits of four bits. Fewer than 29 numbers lent is 9.
 #[no_mangle]
 pub extern "C" fn oam_show(state: &[u8], numbers: &mut [u64]) -> u64
     ensures { λ r. ⌜ Showing (endShown (unpacked (now (state .entry))) (length (now (numbers .entry)))) (now (numbers .entry)) r (now (numbers .exit)) ⌝ }
@@ -148,7 +149,7 @@ pub extern "C" fn oam_show(state: &[u8], numbers: &mut [u64]) -> u64
     match oam_packing::unpack(state) {
         MaybeEnd::Refused(answer) => answer as u64,
         MaybeEnd::Is(e) => {
-            if numbers.len() < 28 {
+            if numbers.len() < 29 {
                 return 9;
             }
             show_end(numbers, e)

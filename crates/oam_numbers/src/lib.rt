@@ -7,7 +7,7 @@ ghost use Rattle.oam_packing.specs.Settings.{settingsNumbers};
 ghost use Rattle.oam_packing.specs.Link.{linkNumbers};
 ghost use Rattle.oam_packing.specs.Peers.{peerNumbers};
 ghost use Rattle.oam_packing.specs.Roles.{roleNumbers};
-ghost use Rattle.oam_packing.specs.Meter.{meterNumbers};
+ghost use Rattle.oam_packing.specs.Meter.{meterShown};
 ghost use Rattle.oam_packing.specs.Own.{ownNumbers};
 ghost use Rattle.oam_packing.specs.Numbers.{numbersOf};
 use link_end::End;
@@ -30,7 +30,7 @@ fn join_numbers(
     meter: Meter,
     own: Own,
 ) -> [u64; 27]
-    ensures { λ r. ⌜ r ≡ together (settingsNumbers settings ∷ linkNumbers link ∷ peerNumbers peer ∷ roleNumbers role ∷ meterNumbers meter ∷ ownNumbers own ∷ []) ⌝ }
+    ensures { λ r. ⌜ r ≡ together (settingsNumbers settings ∷ linkNumbers link ∷ peerNumbers peer ∷ roleNumbers role ∷ meterShown meter ∷ ownNumbers own ∷ []) ⌝ }
 {
     let held = peer.held;
     let last = peer.last;
@@ -56,8 +56,8 @@ fn join_numbers(
         bit_of(is_known(last)) as u64,
         last_number(last) as u64,
         role.number() as u64,
-        link_limit::ticks(meter) as u64,
-        link_limit::written(meter) as u64,
+        link_limit::ticks(meter),
+        link_limit::written_frames(meter) as u64,
         own.revision as u64,
         own.number as u64,
         bit_of(own.gasp) as u64,

@@ -4,16 +4,20 @@ use mathlib.Core.List.{List, [], _∷_}
 use lib.ListN.{getD}
 use Rattle.octets.specs.Octets.{total, fieldsAt, octs}
 use Rattle.link_limit.specs.declared.Meter.{Meter}
-use Rattle.link_limit.specs.Limit.{meterOf}
+use Rattle.link_limit.specs.Limit.{meterOf, writtenFrames}
 
 abbrev pub meterWidths : List ℕ
-meterWidths = 1 ∷ 1 ∷ []
+meterWidths = 1 ∷ 6 ∷ []
 
 abbrev pub meterLength : ℕ
 meterLength = total meterWidths
 
 abbrev pub meterNumbers : Meter → List ℕ
-meterNumbers m = m .ticks ∷ m .written ∷ []
+meterNumbers m = m .ticks ∷ m .intervals ∷ []
+
+-- the same as it is shown, with the frames written in the place of the intervals' digits
+abbrev pub meterShown : Meter → List ℕ
+meterShown m = m .ticks ∷ writtenFrames m ∷ []
 
 -- the meter with some numbers
 abbrev pub meterWith : List ℕ → Meter

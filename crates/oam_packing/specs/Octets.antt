@@ -20,7 +20,7 @@ use Rattle.oam_packing.specs.Own.{ownLength, ownOctets, ownFrom, isOwn}
 abbrev pub partLengths : List ℕ
 partLengths = settingsLength ∷ linkLength ∷ peerLength ∷ roleLength ∷ meterLength ∷ ownLength ∷ []
 
--- how many octets a state has: 48
+-- how many octets a state has: 53
 abbrev pub stateLength : ℕ
 stateLength = total partLengths
 

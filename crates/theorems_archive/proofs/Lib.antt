@@ -2,3 +2,4 @@
 pub mod Lengths
 pub mod Whole
 pub mod Kept
+pub mod Shown

@@ -1,5 +1,6 @@
 -- What holds of a world in every run: of each side beside the past, and of every moment of the past. A moment of the other side
 -- changes nothing of it.
+use Prim.Native.Nat.{ℕ, _≤_}
 use mathlib.Core.Path.{_≡_, refl, ap, _∙_}
 use mathlib.Core.List.{List, _∷_}
 use mathlib.Core.Bool.{true, false}
@@ -8,6 +9,7 @@ use Rattle.link_discovery.specs.declared.Discovery.the-variants.{SendAny}
 use Rattle.link_loopback.specs.declared.Role.the-variants.{Looping}
 use Rattle.link_end.specs.declared.End.{End}
 use Rattle.octets.proofs.Bools.{not-both}
+use Rattle.theorems_reach.specs.Intervals.{framesFrom}
 use Rattle.theorems_reach.proofs.Hearing.{HeardFits}
 use Rattle.theorems_reach.proofs.Standing.{Ranged}
 use Rattle.theorems_reach.proofs.Counting.{Agrees}
@@ -24,11 +26,13 @@ pub record Honest (past : List Moment) (m : Moment) : Type 0 where
   pub enable : Enable (m .wrote) → (m .active ≡ true) × (m .discovery ≡ SendAny)
   pub fits : (x : Message) → decode (m .wrote) ≡ accepted x → HeardFits (x .body)
 
--- of a side: its end is ranged, its meter agrees with the past, the kept field is 2 only after the other side said so, while a
--- record is held the lost-link count is that of the past, and it loops only where the past has the enable
+-- of a side: its end is ranged, its meter agrees with the past, no stretch of the past has more than ten frames, the kept field is 2
+-- only after the other side said so, while a record is held the lost-link count is that of the past, and it loops only where the
+-- past has the enable
 pub record Keeps (s : Side) (past : List Moment) (e : End) : Type 0 where
   pub ranged : Ranged e
   pub agrees : Agrees (e .meter) (historyOf s past)
+  pub stretches : (first : ℕ) → framesFrom first (historyOf s past) ≤ 10
   pub complete : e .peer .kept ≡ 2 → Some (Complete (other s)) past
   pub lost : Lost (quiet s past) e
   pub enabled : e .role ≡ Looping → Enabled s past
@@ -96,6 +100,7 @@ keeps-beside s m past e d k =
     record {
       ranged = k .ranged;
       agrees = rw d (k .agrees);
+      stretches = rw d (k .stretches);
       complete = λ z. there (k .complete z);
       lost = rw d (k .lost);
       enabled = λ l. stay-goes-on s m past (λ h. not-both (ap (same s) h ∙ same-self s) d) (k .enabled l);

@@ -1,15 +1,21 @@
--- After an accepted call the end's meter agrees with the past that has the call too: the ticks of its second, and the frames
--- written in it.
+-- After an accepted call the end's meter agrees with the past that has the call too: the ticks of its timer second, and the frames
+-- written in the intervals of its stretch. So no stretch of the past has more than ten.
+use Prim.Native.Nat.{ℕ, _≤_}
 use mathlib.Core.Path.{_≡_}
 use mathlib.Core.List.{List, _∷_}
 use mathlib.Core.Bool.{and-true}
+use native.Mathlib.Omega.{arith}
+use Rattle.link_limit.specs.Limit.{writtenFrames}
+use Rattle.link_limit.specs.declared.Meter.{Meter}
 use Rattle.link_end.specs.declared.End.{End}
 use Rattle.theorems_reach.specs.Machine.{Call, outcomeOf}
 use Rattle.theorems_reach.specs.Runs.{isTick, entryOf}
 use Rattle.theorems_reach.proofs.Keeping.{InputFits}
 use Rattle.theorems_reach.proofs.Standing.{Ranged}
 use Rattle.theorems_reach.proofs.Framing.{ranged-writes}
+use Rattle.theorems_reach.specs.Intervals.{Entry, framesBack, framesFrom}
 use Rattle.theorems_reach.proofs.Counting.{Agrees, keeps-agrees}
+use Rattle.theorems_reach.proofs.Stretches.{keeps-stretches}
 use Rattle.theorems_pair.specs.System.{Side, Moment, momentOf}
 use Rattle.theorems_pair.specs.Safe.{someOctets, historyOf}
 use Rattle.theorems_pair.proofs.Frames.{counted}
@@ -21,3 +27,16 @@ agrees-after s c e past o r z a =
     let entry : entryOf c e ≡ record { tick = isTick (c .input); frame = someOctets (momentOf s c e .wrote) } =
     rw (z, and-true (isTick (c .input)), counted c e (ranged-writes c e o r)) in
     rw (same-self s, ← entry) (keeps-agrees c e o r (historyOf s past) a)
+
+-- the written-frames number of a meter that agrees with a history
+pub agrees-written : (m : Meter) (xs : List Entry) → Agrees m xs → writtenFrames m ≡ framesBack 10 xs
+unfolding writtenFrames
+agrees-written m xs a = a .frames 10 (omega arith)
+
+pub stretches-after : (s : Side) (c : Call) (e : End) (past : List Moment) (after : End) → Ranged after
+    → Agrees (after .meter) (historyOf s (momentOf s c e ∷ past))
+    → ((first : ℕ) → framesFrom first (historyOf s past) ≤ 10) → (first : ℕ) → framesFrom first (historyOf s (momentOf s c e ∷ past)) ≤ 10
+stretches-after s c e past after r a =
+    let now : framesBack 10 (historyOf s (momentOf s c e ∷ past)) ≤ 10 = omega (arith, agrees-written (after .meter) _ a, r .stands .meter .written) in
+    let entry : Entry = record { tick = isTick (c .input); frame = someOctets (momentOf s c e .wrote) } in
+    rw (same-self s) (keeps-stretches entry (historyOf s past) (rw (same-self s) at now))

@@ -1,6 +1,6 @@
--- The demand: every run of two fresh ends is safe at its end, and so at every moment, for each moment ends a run. And the number
--- of written frames that an end keeps is the one that the past has.
-use Prim.Native.Nat.{ℕ, zero, suc, _≤_}
+-- The demand: every run of two fresh ends is safe at its end, and so at every moment, for each moment ends a run. And the
+-- written-frames number of an end is the one that the past has.
+use Prim.Native.Nat.{ℕ, zero, suc}
 use mathlib.Core.Path.{_≡_, refl, ap}
 use mathlib.Core.List.{List, [], _∷_}
 use mathlib.Core.Bool.{true}
@@ -8,18 +8,21 @@ use native.Mathlib.Omega.{arith}
 use borrow.Author.Tests.{eqb-true}
 use lib.Dec.{eqb}
 use Rattle.octets.proofs.Bools.{by-cond, never}
+use Rattle.link_limit.specs.Limit.{writtenFrames}
 use Rattle.link_peer.specs.declared.Settings.{Settings}
 use Rattle.link_loopback.specs.declared.Role.the-variants.{Looping}
 use Rattle.link_end.specs.Parts.{freshEnd}
 use Rattle.theorems_reach.specs.Machine.{tick, report, receive, request, Call, outcomeOf}
 use Rattle.theorems_reach.specs.Premises.{Accepted}
 use Rattle.theorems_reach.proofs.Standing.{fresh-is}
+use Rattle.theorems_reach.proofs.Counting.{fresh-agrees}
 use Rattle.theorems_pair.specs.Lists.{Some, here, there, none-left, also}
 use Rattle.theorems_pair.specs.System.{Side, near, far, other, same, Moment, momentOf, World, put, called, Act, ticks, reports, requests, arrives, Happening, frameAt, delivered, happens, run, begin}
-use Rattle.theorems_pair.specs.Safe.{Loops, Safe, someOctets, inSecond}
+use Rattle.theorems_pair.specs.Safe.{Loops, Safe, someOctets, inStretch}
 use Rattle.theorems_reach.proofs.Beginning.{not-looping}
 use Rattle.theorems_reach.proofs.InSendAny.{looping-any, any-takes}
 use Rattle.theorems_pair.proofs.Invariant.{Keeps, Invariant, apart, both, put-here, put-there, honest-grows, keeps-beside}
+use Rattle.theorems_pair.proofs.Limit.{agrees-written}
 use Rattle.theorems_pair.proofs.Steps.{Wrote, Delivered, keeps-after, honest-after}
 
 -- ---- a call
@@ -83,7 +86,8 @@ begins settings a =
       sides = λ s.
           record {
             ranged = fresh-is (settings s) (a s);
-            agrees = record { ticks = refl; written = refl };
+            agrees = fresh-agrees;
+            stretches = λ first. omega arith;
             complete = λ z. absurd (omega arith);
             lost = λ _. refl;
             enabled = λ l. not-looping refl l;
@@ -99,9 +103,6 @@ loops w i s l =
     let any = looping-any (w .ends s) (k .ranged) l in
     record { any = any; enabled = k .enabled l; recent = omega (arith, k .ranged .stands .lost, k .lost (any-takes (w .ends s) any .0)) }
 
-limit : (w : World) → Invariant w → (s : Side) → inSecond s (w .past) ≤ 10
-limit w i s = omega (arith, i .sides s .agrees .written, i .sides s .ranged .stands .meter .written)
-
 invariant : (settings : Side → Settings) → ((s : Side) → Accepted (settings s)) → (hs : List Happening) → Invariant (run (begin settings) hs)
 invariant settings a hs = keeps-run (begin settings) hs (begins settings a)
 
@@ -110,9 +111,9 @@ pub safe : (settings : Side → Settings) → ((s : Side) → Accepted (settings
 safe settings a hs =
     let w = run (begin settings) hs in
     let i = invariant settings a hs in
-    record { loops = loops w i; limit = limit w i }
+    record { loops = loops w i; limit = λ s. i .sides s .stretches }
 
--- the number of written frames that an end keeps is that of the frames which it wrote in its present second
+-- the written-frames number of an end is that of the frames which it wrote "in the present and ten preceding intervals"
 pub counts : (settings : Side → Settings) → ((s : Side) → Accepted (settings s)) → (hs : List Happening) (s : Side)
-    → run (begin settings) hs .ends s .meter .written ≡ inSecond s (run (begin settings) hs .past)
-counts settings a hs s = invariant settings a hs .sides s .agrees .written
+    → writtenFrames (run (begin settings) hs .ends s .meter) ≡ inStretch s (run (begin settings) hs .past)
+counts settings a hs s = agrees-written _ _ (invariant settings a hs .sides s .agrees)

@@ -27,7 +27,7 @@ use Rattle.theorems_reach.proofs.Effects.{Face, same-discovery, Effect, effect-
 use Rattle.theorems_pair.proofs.Peers.{becomes-two, Lost, becomes-lost}
 use Rattle.theorems_reach.proofs.InSendAny.{is-any, looping-any, any-takes}
 use Rattle.theorems_pair.proofs.Frames.{wrote-fits, wrote-enable}
-use Rattle.theorems_pair.proofs.Limit.{agrees-after}
+use Rattle.theorems_pair.proofs.Limit.{agrees-after, stretches-after}
 use Rattle.theorems_pair.proofs.Invariant.{Honest, Keeps, same-self, other-other, both, stay-goes-on}
 
 -- the side wrote the frame
@@ -124,9 +124,11 @@ module _ (s : Side) (c : Call) (past : List Moment) (e : End) (k : Keeps s past 
 
   pub keeps-after : Keeps s (moment ∷ past) after
   keeps-after =
+      let agrees = agrees-after s c e past fits (k .ranged) z (k .agrees) in
       record {
         ranged = ranged-after;
-        agrees = agrees-after s c e past fits (k .ranged) z (k .agrees);
+        agrees = agrees;
+        stretches = stretches-after s c e past after ranged-after agrees (k .stretches);
         complete = λ two. there (complete-after two);
         lost = lost-after;
         enabled = enabled-after;

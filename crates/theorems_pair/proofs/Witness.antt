@@ -13,7 +13,7 @@ use Rattle.theorems_reach.specs.Machine.{start, stop}
 use Rattle.theorems_reach.specs.Premises.{Accepted}
 use Rattle.theorems_reach.proofs.Witness.{machine}
 use Rattle.theorems_pair.specs.System.{Side, near, far, Act, reports, requests, arrives, Happening, run, begin}
-use Rattle.theorems_pair.specs.Safe.{Loops, inSecond}
+use Rattle.theorems_pair.specs.Safe.{Loops, inStretch}
 use Rattle.theorems_pair.proofs.Safety.{safe}
 
 -- an active end and a passive one, both of which may be put in loopback
@@ -39,9 +39,9 @@ module _ (hs : List Happening) where
   abbrev roles : Role × Role
   roles = let ends = run (begin settings) hs .ends in (ends near .role, ends far .role)
 
-  -- the frames of the first second
+  -- the frames of the first interval
   abbrev frames : ℕ × ℕ
-  frames = let past = run (begin settings) hs .past in (inSecond near past, inSecond far past)
+  frames = let past = run (begin settings) hs .past in (inStretch near past, inStretch far past)
 
 pub record Witness : Type 0 where
   pub taken : (s : Side) → Accepted (settings s)

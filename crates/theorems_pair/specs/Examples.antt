@@ -1,8 +1,8 @@
 -- The paper's proved examples, as a single table: "lengths 59 (1), 60, 1,514 (accepted), 1,515 (1) in a Loopback frame;
 -- code 05 (5); TLV 01 length 15 (6); two Local TLVs (7); command 0 (8); width 00 is 128, 7F is 127, 80 none; revision
--- 65,535 then 0; lost-link count 49 stays, 50 enters FAULT; eleventh frame (13)". Every number is computed from the
--- definitions that the contracts cite.
-use Prim.Native.Nat.{ℕ, _-_}
+-- 65,535 then 0; lost-link count 49 stays, 50 enters FAULT; eleventh frame (13)", this last over a stretch of intervals. Every
+-- number is computed from the definitions that the contracts cite.
+use Prim.Native.Nat.{ℕ, zero, suc, _+_, _-_, _*_, _^_}
 use mathlib.Core.List.{List, [], _∷_, _++_}
 use mathlib.Core.Bool.{true, false}
 use lib.ListN.{length, replicate}
@@ -11,6 +11,7 @@ use Rattle.frame.specs.Frame.{Answer, refused, accepted, loopback, decode}
 use Rattle.frame_body.specs.Variables.{containerStep}
 use Rattle.frame_body.specs.declared.ContainerStep.{ContainerStep}
 use Rattle.frame_body.specs.declared.ContainerStep.the-variants.{Value, Indication}
+use Rattle.link_limit.specs.Limit.{writtenFrames}
 use Rattle.link_peer.specs.declared.Record.the-variants.{Of}
 use Rattle.link_loopback.specs.declared.Role.the-variants.{Idle}
 use Rattle.link_end.specs.declared.End.{End}
@@ -54,8 +55,8 @@ width octet = container (containerStep (7 ∷ 0 ∷ 2 ∷ octet ∷ replicate 12
 
 -- ---- an end in SEND_ANY that takes one input more
 
-abbrev standing : (lost written revision : ℕ) → End
-standing lost written revision =
+abbrev standing : (lost intervals revision : ℕ) → End
+standing lost intervals revision =
     record {
       settings = record { configuration = 5; size = 1518; oui = 1; vendor = 2; source = 3; required = 0 };
       link = record { up = true; lost = lost };
@@ -65,7 +66,7 @@ standing lost written revision =
         last = Never;
       };
       role = Idle;
-      meter = record { ticks = 0; written = written };
+      meter = record { ticks = 0; intervals = intervals };
       own = record { revision = revision; number = 0; gasp = false; critical = false; owed = false };
     }
 
@@ -83,9 +84,21 @@ faultsAt lost = number (bitOf (blank (calling tick (standing (lost - 1) 0 0) .en
 abbrev countAfter : ℕ → Seen
 countAfter lost = number (calling tick (standing (lost - 1) 0 0) .end .link .lost)
 
--- the answer to a request for the n-th frame of a second
+-- the answer to a request for the n-th frame of a stretch: six were written ten intervals ago, the others in the present one
 abbrev answerToFrame : ℕ → Seen
-answerToFrame n = number (calling (request start) (standing 0 (n - 1) 0) .answer)
+answerToFrame n = number (calling (request start) (standing 0 (6 * 16 ^ 10 + (n - 7)) 0) .answer)
+
+-- an end that has written ten frames in an interval, so many ticks later: the frames of its stretch, and the answer to a request
+-- (shut: opened, an end is computed anew wherever it is named)
+unfoldable pub ticksLater : ℕ → End
+ticksLater zero = standing 0 10 0
+ticksLater (suc n) = calling tick (ticksLater n) .end
+
+abbrev writtenLater : ℕ → Seen
+writtenLater n = number (writtenFrames (ticksLater n .meter))
+
+abbrev answerLater : ℕ → Seen
+answerLater n = number (calling (request start) (ticksLater n) .answer)
 
 -- ---- the table
 
@@ -110,4 +123,9 @@ rows =
     ∷ countAfter 50 is number 0
     ∷ answerToFrame 10 is number 0
     ∷ answerToFrame 11 is number 13
+    -- the tenth tick's frame waits until the eleventh, which writes it
+    ∷ writtenLater 10 is number 10
+    ∷ answerLater 10 is number 13
+    ∷ writtenLater 11 is number 1
+    ∷ answerLater 11 is number 0
     ∷ []

@@ -10,7 +10,7 @@ use Rattle.link_loopback.specs.declared.Role.the-variants.{Looping}
 use Rattle.link_end.specs.Parts.{discoveryOf}
 use Rattle.theorems_reach.specs.Machine.{Input, tick, report, receive, request}
 use Rattle.theorems_reach.specs.Runs.{isTick}
-use Rattle.theorems_reach.specs.Seconds.{Entry, framesIn}
+use Rattle.theorems_reach.specs.Intervals.{Entry, framesBack, framesFrom}
 use Rattle.theorems_pair.specs.Lists.{Some, All}
 use Rattle.theorems_pair.specs.System.{Side, other, same, Moment, World}
 
@@ -81,9 +81,9 @@ historyOf s [] = []
 historyOf s (m ∷ past) =
     cond (same s (m .side)) (record { tick = isTick (m .input); frame = someOctets (m .wrote) } ∷ historyOf s past) (historyOf s past)
 
--- the frames that the side wrote "in one of its timer seconds", the present one
-abbrev pub inSecond : Side → List Moment → ℕ
-inSecond s past = framesIn (historyOf s past)
+-- the frames that the side wrote "in the present and ten preceding intervals"
+abbrev pub inStretch : Side → List Moment → ℕ
+inStretch s past = framesBack 10 (historyOf s past)
 
 -- ---- the demand
 
@@ -94,8 +94,8 @@ pub record Loops (s : Side) (w : World) : Type 0 where
   pub enabled : Enabled s (w .past)
   pub recent : quiet s (w .past) < 50
 
--- "At every moment": of each side in loopback so much holds, and "No end writes more than ten frames in
--- one of its timer seconds."
+-- "At every moment": of each side in loopback so much holds; and no side wrote more than "ten frames over any eleven successive"
+-- intervals, whichever of its intervals is the first of them
 pub record Safe (w : World) : Type 0 where
   pub loops : (s : Side) → w .ends s .role ≡ Looping → Loops s w
-  pub limit : (s : Side) → inSecond s (w .past) ≤ 10
+  pub limit : (s : Side) (first : ℕ) → framesFrom first (historyOf s (w .past)) ≤ 10

@@ -1,5 +1,5 @@
 -- What each call makes of an end stands as that end stood: block by block.
-use Prim.Native.Nat.{_<_, _-_}
+use Prim.Native.Nat.{ℕ, _<_, _-_}
 use mathlib.Core.Path.{_≡_, refl, _∙_}
 use mathlib.Core.Bool.{Bool, true, false, cond, or-true}
 use native.Mathlib.Omega.{arith}
@@ -7,7 +7,7 @@ use borrow.Author.Tests.{leb-false}
 use Rattle.frame.specs.Frame.{Message, accepted, decode, localOf}
 use Rattle.octets.proofs.Bools.{by-cond, not-both, whether}
 use Rattle.link_discovery.specs.Standing.{isAny, roleIn, isLost, lostCount}
-use Rattle.link_limit.specs.Limit.{closes, turnedMeter, secondTicks}
+use Rattle.link_limit.specs.Limit.{secondTicks, closes, turnedMeter}
 use Rattle.octets.specs.Bits.{bit}
 use Rattle.link_peer.specs.Peers.{isHeld}
 use Rattle.link_discovery.specs.declared.Discovery.{Discovery}
@@ -28,6 +28,7 @@ use Rattle.link_end.specs.Ranges.{recordFits, lastFits, never, idle, blank}
 use Rattle.theorems_reach.specs.Machine.{Input, tick, report, receive, request}
 use Rattle.theorems_reach.specs.Premises.{OfOctets}
 use Rattle.theorems_reach.proofs.Coming.{Made, ticks, reports, hears}
+use Rattle.theorems_reach.proofs.Digits.{turned-written}
 use Rattle.theorems_reach.proofs.Standing.{Fitting, Bounded, relinked, remetered, Stands, Rests}
 use Rattle.theorems_reach.proofs.Hearing.{HeardFits, heard-fits, kept-fits, record-fits, record-beside, last-fits}
 use Rattle.link_end.specs.Hearing.{actionOf, heardOf}
@@ -85,9 +86,11 @@ missed-stands e s =
 pub turned-meter-bounded : (m : Meter) → Bounded m → Bounded (turnedMeter m)
 unfolding turnedMeter closes
 turned-meter-bounded m b =
-    by-cond Bounded (closes m)
-    (λ _. record { ticks = omega arith; written = omega arith })
-    (λ f. record { ticks = omega (arith, leb-false (secondTicks - 1) (m .ticks) f); written = b .written })
+    record {
+      ticks = by-cond (λ (n : ℕ). n < secondTicks) (closes m) (λ _. omega arith) (λ f. omega (arith, leb-false (secondTicks - 1) (m .ticks) f));
+      intervals = omega arith;
+      written = omega (arith, turned-written m, b .written);
+    }
 
 ticked-stands : (e : End) → Stands e → Stands (ticked e)
 unfolding ticked settled

@@ -1,6 +1,7 @@
 -- The theorems on one end, and what they rest on (docs/PROMISES.md lists the theorems by file).
 pub mod Bools
 pub mod Coming
+pub mod Digits
 pub mod Standing
 pub mod Hearing
 pub mod Keeping
@@ -13,6 +14,7 @@ pub mod Refusing
 pub mod Plainly
 pub mod Framing
 pub mod Counting
+pub mod Stretches
 pub mod Waiting
 pub mod Numbering
 pub mod Losing
@@ -23,4 +25,5 @@ pub mod Beginning
 pub mod Saying
 pub mod Responding
 pub mod Owed
+pub mod OwedUntil
 pub mod Witness

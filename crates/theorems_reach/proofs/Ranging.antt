@@ -1,8 +1,8 @@
--- Every end that calls make of a fresh one is ranged: the lost-link count stays below 50, a second has at most ten ticks and
--- ten frames, the kept field is at most 2, a last event number is kept only beside a record, a role other than Idle stands in
--- SEND_ANY and is one that the settings allow, nothing is owed where it is not allowed, with the link down no peer record is
--- held, and every number fits its octets.
-use Prim.Native.Nat.{ℕ, _^_, _<_, _≤_}
+-- Every end that calls make of a fresh one is ranged: the lost-link count stays below 50, fewer than ten ticks are counted of a timer
+-- second and at most ten frames of a stretch, the kept field is at most 2, a last event number is kept only beside a record, a role
+-- other than Idle stands in SEND_ANY and is one that the settings allow, nothing is owed where it is not allowed, with the link
+-- down no peer record is held, and every number fits its octets.
+use Prim.Native.Nat.{ℕ, _-_, _^_, _<_}
 use mathlib.Core.Path.{_≡_, refl, sym, subst, _∙_}
 use mathlib.Core.List.{List, [], _∷_}
 use mathlib.Core.Bool.{Bool, true, false}
@@ -10,7 +10,7 @@ use native.Mathlib.Omega.{arith}
 use borrow.Author.Tests.{ltb-true}
 use lib.ListN.{length}
 use Rattle.octets.proofs.Bools.{by-cond, never, and-l, not-both, whether}
-use Rattle.link_limit.specs.Limit.{hasRoom, chargedMeter, mostFrames}
+use Rattle.link_limit.specs.Limit.{mostFrames, stretchIntervals, writtenFrames, hasRoom, chargedMeter}
 use Rattle.link_limit.specs.Owing.{following}
 use Rattle.link_loopback.specs.Loopback.{roleFits}
 use Rattle.link_limit.specs.declared.Meter.{Meter}
@@ -28,6 +28,7 @@ use Rattle.theorems_reach.specs.Machine.{Request, start, stop, variables
 use Rattle.theorems_reach.specs.Runs.{after}
 use Rattle.theorems_reach.specs.Premises.{Accepted, OfOctets, AllOfOctets}
 use Rattle.theorems_reach.proofs.Coming.{Made, duesAfter, Comes, refuses, concludes, grants, comes}
+use Rattle.theorems_reach.proofs.Digits.{present-room, charged-newest}
 use Rattle.theorems_reach.proofs.Standing.{Bounded, remetered, renumbered, Stands, Rests, Fits, Ranged, ranged-is, is-ranged, fresh-is}
 use Rattle.theorems_reach.proofs.Keeping.{InputFits, octets-fit, made-stands, made-rests}
 use Rattle.theorems_reach.proofs.Staying.{run-settings}
@@ -54,12 +55,17 @@ dues-ranged before due e s r f =
 -- ---- a frame is written
 
 pub charged-meter-bounded : (m : Meter) → Bounded m → Bounded (chargedMeter m)
-unfolding hasRoom chargedMeter
+unfolding hasRoom chargedMeter writtenFrames
 charged-meter-bounded m b =
+    by-cond (λ (n : ℕ). Bounded (record { ticks = m .ticks; intervals = n })) (hasRoom m)
+    (λ t.
+    let one = charged-newest m t (stretchIntervals - 1) in
     record {
       ticks = b .ticks;
-      written = by-cond (λ (k : ℕ). k ≤ mostFrames) (hasRoom m) (λ t. omega (arith, ltb-true (m .written) mostFrames t)) (λ _. b .written);
-    }
+      intervals = omega (arith, b .intervals, present-room m t);
+      written = omega (arith, ltb-true (writtenFrames m) mostFrames t, rw t at one);
+    })
+    (λ _. b)
 
 pub sent-ranged : (e : End) → Ranged e → Ranged (sent e)
 unfolding sent inAny discoveryOf

@@ -17,7 +17,7 @@ pub record Unchanged (c : Call) (e : End) : Type 0 where
   pub output : outputOf c e ≡ c .out
 
 -- what is concluded is accepted
-concluded-0 : (octets : ℕ) (shown : News) (e : End) → concluded octets shown e .answer ≡ 0
+pub concluded-0 : (octets : ℕ) (shown : News) (e : End) → concluded octets shown e .answer ≡ 0
 unfolding concluded
 concluded-0 octets shown e = by-cond (λ (o : Outcome). o .answer ≡ 0) (sends e) (λ _. refl) (λ _. refl)
 

@@ -4,10 +4,9 @@ use mathlib.Core.Path.{_≡_, refl}
 use mathlib.Core.Bool.{true, false}
 use native.Mathlib.Omega.{arith}
 use borrow.Author.Tests.{ltb-true, leb-true, lt-ltb, le-leb}
-use lib.Dec.{ltb, leb}
 use Rattle.link_discovery.specs.Standing.{lostCount}
 use Rattle.link_peer.specs.Ranges.{sound}
-use Rattle.link_limit.specs.Limit.{isBounded, secondTicks, mostFrames}
+use Rattle.link_limit.specs.Limit.{mostFrames, stretchIntervals, secondTicks, writtenFrames, isBounded}
 use Rattle.link_loopback.specs.Loopback.{roleFits}
 use Rattle.link_peer.specs.declared.Settings.{Settings}
 use Rattle.link_limit.specs.declared.Meter.{Meter}
@@ -22,6 +21,7 @@ use Rattle.link_end.specs.Ranges.{tests, recordFits, lastFits, idle, blank, bes
 use Rattle.link_end.proofs.Ranging.{all-at}
 use Rattle.theorems_reach.specs.Premises.{Accepted}
 use Rattle.theorems_reach.proofs.Bools.{or-l, or-r, implies, is-or-l, is-or-r, is-implied}
+use Rattle.theorems_reach.proofs.Digits.{newest-zero}
 
 -- ---- the parts
 
@@ -32,10 +32,11 @@ pub record Fitting (p : Peer) : Type 0 where
   pub last : lastFits (p .last) ≡ true
   pub beside : besides p ≡ true
 
--- a second has ten ticks and at most ten frames
+-- a timer second has ten ticks, and a stretch eleven digits and at most ten frames
 pub record Bounded (m : Meter) : Type 0 where
   pub ticks : m .ticks < secondTicks
-  pub written : m .written ≤ mostFrames
+  pub intervals : m .intervals < 16 ^ stretchIntervals
+  pub written : writtenFrames m ≤ mostFrames
 
 -- all of an end but its role and what it owes; with the link down no record is held
 pub record Standing (s : Settings) (l : Link) (p : Peer) (m : Meter) (r n : ℕ) : Type 0 where
@@ -86,13 +87,14 @@ bounded-is : (m : Meter) → isBounded m ≡ true → Bounded m
 unfolding isBounded
 bounded-is m h =
     record {
-      ticks = ltb-true (m .ticks) secondTicks (and-l (ltb (m .ticks) secondTicks) (leb (m .written) mostFrames) h);
-      written = leb-true (m .written) mostFrames (and-r (ltb (m .ticks) secondTicks) (leb (m .written) mostFrames) h);
+      ticks = ltb-true (m .ticks) secondTicks (search and-l);
+      intervals = ltb-true (m .intervals) (16 ^ stretchIntervals) (search (and-l, and-r));
+      written = leb-true (writtenFrames m) mostFrames (search (and-l, and-r));
     }
 
 is-bounded : (m : Meter) → Bounded m → isBounded m ≡ true
 unfolding isBounded
-is-bounded m b = rw (lt-ltb (m .ticks) secondTicks (b .ticks), le-leb (m .written) mostFrames (b .written))
+is-bounded m b = rw (lt-ltb (m .ticks) secondTicks (b .ticks), lt-ltb (m .intervals) (16 ^ stretchIntervals) (b .intervals), le-leb (writtenFrames m) mostFrames (b .written))
 
 pub ranged-is : (e : End) → ranged e ≡ true → Ranged e
 unfolding ranged
@@ -137,7 +139,7 @@ is-ranged e r =
 -- ---- a fresh end
 
 pub fresh-is : (s : Settings) → Accepted s → Ranged (freshEnd s)
-unfolding freshEnd recordFits lastFits blank
+unfolding freshEnd recordFits lastFits blank writtenFrames
 fresh-is s a =
     record {
       stands = record {
@@ -145,7 +147,7 @@ fresh-is s a =
         lost = omega arith;
         peer = record { kept = omega arith; held = refl; last = refl; beside = refl };
         down = λ _. refl;
-        meter = record { ticks = omega arith; written = omega arith };
+        meter = record { ticks = omega arith; intervals = omega arith; written = omega (arith, newest-zero stretchIntervals) };
         revision = omega arith;
         number = omega arith;
       };

@@ -1,4 +1,4 @@
--- The theorems are not empty: there are runs of one end in which it loops, writes ten frames in a second and has the
+-- The theorems are not empty: there are runs of one end in which it loops, writes ten frames in a stretch and has the
 -- eleventh refused, and loses its link. With the runs after these each slip that tests/definitions tries makes one of
 -- them come out otherwise.
 use Prim.Native.Nat.{ℕ, _*_}
@@ -19,7 +19,7 @@ use Rattle.frame_writer.specs.Plain.{plainFlags, plainInformation, plain, sized
 use Rattle.frame_writer.specs.Writing.{writes, written, messageOf}
 use Rattle.link_limit.specs.Tests.{requestAnswer}
 use Rattle.octets.specs.Bits.{bit}
-use Rattle.link_limit.specs.Limit.{hasRoom, chargedMeter, closes, turnedMeter}
+use Rattle.link_limit.specs.Limit.{framesOfNewest, writtenFrames, hasRoom, chargedMeter, closes, turnedMeter}
 use Rattle.link_loopback.specs.Loopback.{roleAfterLocal, obeys, mayStart, mayStop}
 use Rattle.link_peer.specs.Peers.{hasAll, satisfies, satisfied, peerActive, peerLoopback, mayRespond, peerMaximum, keptFrom}
 use Rattle.link_peer.specs.Ranges.{sound}
@@ -41,11 +41,11 @@ use Rattle.link_end.specs.Ticking.{missed, ticked, tickedDue}
 use Rattle.link.specs.Ticks.{tickOf, tickOutput}
 use Rattle.theorems_reach.specs.Machine.{Input, tick, report, receive, request, start, tell, respond, Call, outcomeOf, frameOf}
 use Rattle.theorems_reach.specs.Runs.{after, history}
-use Rattle.theorems_reach.specs.Seconds.{framesIn}
+use Rattle.theorems_reach.specs.Intervals.{framesBack}
 
 -- all definitions of the machine, opened at once
 unfoldable pub machine : Unit {0}
-unfolding flagsNumber headerAnswer bodyAnswer decode informationAt informationStep informationWalk tlvAt markAt walk headerOctets informationOctets encode plainFlags plainInformation plain sized formedAttributes formedAnswers writes written requestAnswer bit hasRoom chargedMeter closes turnedMeter roleAfterLocal obeys mayStart mayStop hasAll satisfies satisfied peerActive peerLoopback mayRespond peerMaximum keptFrom sound remoteField faultFlag ownInformation clearedInformation clearedRecord learned obeysCommand obeyed roleAfter acted isRepeat shownEvents shownOf takenUp taken takenDue concludedHeard concludedHeardOutput receiveOf receiveOutput linkUp linkDown reportedDue reportOf reportOutput answerTo granted decided smallerMaximum requestToSend concludedRequest concludedRequestOutput requestOf requestOutput faultFlagOf flagsToSend allowed tlvsToSend informationToSend changed dues sends sent concluded concludedOutput freshEnd discoveryOf inAny faulted settled missed ticked tickedDue tickOf tickOutput
+unfolding flagsNumber headerAnswer bodyAnswer decode informationAt informationStep informationWalk tlvAt markAt walk headerOctets informationOctets encode plainFlags plainInformation plain sized formedAttributes formedAnswers writes written requestAnswer bit framesOfNewest writtenFrames hasRoom chargedMeter closes turnedMeter roleAfterLocal obeys mayStart mayStop hasAll satisfies satisfied peerActive peerLoopback mayRespond peerMaximum keptFrom sound remoteField faultFlag ownInformation clearedInformation clearedRecord learned obeysCommand obeyed roleAfter acted isRepeat shownEvents shownOf takenUp taken takenDue concludedHeard concludedHeardOutput receiveOf receiveOutput linkUp linkDown reportedDue reportOf reportOutput answerTo granted decided smallerMaximum requestToSend concludedRequest concludedRequestOutput requestOf requestOutput faultFlagOf flagsToSend allowed tlvsToSend informationToSend changed dues sends sent concluded concludedOutput freshEnd discoveryOf inAny faulted settled missed ticked tickedDue tickOf tickOutput
 machine = tt
 
 -- an active end that may be put in loopback, and a peer of the same kind
@@ -99,24 +99,28 @@ looped = hears (loopback 1) ∷ met
 abbrev early : List Call
 early = hearsWith 1 (loopback 1) ∷ hearsWith 1 (information (local peer ∷ [])) ∷ calling (report LinkUp) ∷ []
 
--- seven requests more
-abbrev busy : List Call
-busy = replicate 7 tells ++ looped
-
 -- so many ticks with nothing heard
 abbrev quiet : ℕ → List Call
 quiet n = replicate n (calling tick) ++ looped
+
+-- seven requests after so many ticks, and then so many ticks more
+abbrev busy : ℕ → ℕ → List Call
+busy before later = replicate later (calling tick) ++ (replicate 7 tells ++ quiet before)
 
 pub record Witness : Type 0 where
   pub taken : sound settings ≡ true
   -- an end loops
   pub loops : after settings looped .role ≡ Looping
-  -- ten frames are written, and a request for the eleventh is 13
-  pub ten : framesIn (history settings busy) ≡ 10
-  pub eleventh : outcomeOf tells (after settings busy) .answer ≡ 13
-  -- the tenth tick closes the second, and its own frame belongs to the new one
-  pub ninth-tick : framesIn (history settings (quiet 9)) ≡ 3
-  pub tenth-tick : framesIn (history settings (quiet 10)) ≡ 1
+  -- ten frames are written, and a request for the eleventh is 13; so it is behind the tenth tick, whose frame waits
+  pub ten : framesBack 10 (history settings (busy 9 0)) ≡ 10
+  pub eleventh : outcomeOf tells (after settings (busy 9 0)) .answer ≡ 13
+  pub waits : framesBack 10 (history settings (busy 9 1)) ≡ 10
+  pub behind-tenth : outcomeOf tells (after settings (busy 9 1)) .answer ≡ 13
+  -- the three of the ten that were written first leave the stretch with the eleventh tick, which writes the frame that waits
+  pub waited : framesBack 10 (history settings (busy 9 2)) ≡ 8
+  -- ten at once leave it with the eleventh tick, which writes the frame that waits since the tenth
+  pub ten-later : framesBack 10 (history settings (busy 0 10)) ≡ 10
+  pub eleven-later : framesBack 10 (history settings (busy 0 11)) ≡ 1
   -- a lost-link count of 49 stays, 50 enters FAULT
   pub forty-nine : after settings (quiet 49) .role ≡ Looping
   pub fifty : discoveryOf (after settings (quiet 50)) ≡ ActiveSendLocal
@@ -144,8 +148,11 @@ witness =
       loops = refl;
       ten = refl;
       eleventh = refl;
-      ninth-tick = refl;
-      tenth-tick = refl;
+      waits = refl;
+      behind-tenth = refl;
+      waited = refl;
+      ten-later = refl;
+      eleven-later = refl;
       forty-nine = refl;
       fifty = refl;
       too-early = refl;

@@ -1,5 +1,6 @@
 -- What the theorems are said with; the entries of the archive cite Machine too.
 pub mod Machine
+pub mod Intervals
 pub mod Seconds
 pub mod Runs
 pub mod Premises

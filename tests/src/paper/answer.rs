@@ -29,7 +29,7 @@ pub const VALUES: u8 = 10;
 pub const NOT_SEND_ANY: u8 = 11;
 /// The request's frame, plus 4, exceeds the smaller of the two maximum sizes.
 pub const SIZE: u8 = 12;
-/// Ten frames are already written in this timer second.
+/// Ten frames were written in the present and ten preceding intervals.
 pub const LIMIT: u8 = 13;
 /// The text line is not in its stated form.
 pub const TEXT: u8 = 14;

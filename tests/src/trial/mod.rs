@@ -7,7 +7,6 @@ mod machine;
 mod pair;
 mod reading;
 mod report;
-mod turn;
 mod writers;
 
 #[cfg(test)]

@@ -28,12 +28,7 @@ pub fn measure(meter: &mut impl Meter) -> Outcome {
     let enable = Call::Receive(frame(code::LOOPBACK)?);
     let broken = Call::Receive(broken()?);
     any.measure(meter, "tick that writes nothing", &Call::Tick, (0, 0))?;
-    last.measure(
-        meter,
-        "tick that closes a second and writes",
-        &Call::Tick,
-        (0, 60),
-    )?;
+    last.measure(meter, "tenth tick that writes", &Call::Tick, (0, 60))?;
     any.measure(
         meter,
         "receive Information, nothing owed",

@@ -3,7 +3,7 @@
 use super::machine::Stand;
 use oam_tests::generate::machine::{any_settings, directed_scripts, Script};
 use oam_tests::generate::{any_draft, any_frame, any_log_entry, any_log_line, every_frame};
-use oam_tests::library::machine::{Call, Machine, RECEIVED, STATE_OCTETS};
+use oam_tests::library::machine::{Call, Machine, Turn, RECEIVED, STATE_OCTETS};
 use oam_tests::library::{writer_name, Archive, Library, HEADER, ROW};
 use oam_tests::measure::stack::PaintedStack;
 use oam_tests::paper::machine::{End, Settings, END_NUMBERS};
@@ -43,8 +43,8 @@ pub fn measure(seed: u64) -> Result<Depths, String> {
     for _ in 0..SCRIPTS {
         depths.script();
     }
-    for (settings, calls) in directed_scripts() {
-        depths.directed(&settings, &calls);
+    for (settings, turns) in directed_scripts() {
+        depths.directed(&settings, &turns);
     }
     Ok(depths)
 }
@@ -120,10 +120,10 @@ impl Depths {
         }
     }
 
-    fn directed(&mut self, settings: &Settings, calls: &[Call]) {
+    fn directed(&mut self, settings: &Settings, turns: &[Turn]) {
         let mut state = self.fresh(settings);
-        for call in calls {
-            self.call(call, &mut state);
+        for turn in turns {
+            self.call(&turn.call, &mut state);
         }
     }
 

@@ -9,6 +9,7 @@ mod response_faults;
 mod responses;
 mod script;
 mod settings;
+mod stretch;
 mod wraps;
 
 #[cfg(test)]
@@ -20,4 +21,4 @@ pub use response_faults::ResponseFault;
 pub use responses::any_respond;
 pub use script::Script;
 pub use settings::{any_settings, good_settings, paired_settings, SettingsFault};
-pub use wraps::{wrapping_second, wrapping_start, WRAPPING, WRAPPING_SECONDS};
+pub use wraps::{wrapping_round, wrapping_start, WRAPPING, WRAPPING_ROUNDS};

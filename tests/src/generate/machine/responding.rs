@@ -2,8 +2,8 @@
 //! just do not, with as many attributes and descriptors as there may be and one
 //! more, and at ends of every configuration.
 
-use super::directed::{reported, Directed};
-use super::wraps::{received, second_of_ticks, COMPLETE};
+use super::directed::{reported, with_room, Directed};
+use super::wraps::{received, stretch_of_ticks, COMPLETE};
 use crate::library::machine::Call;
 use crate::paper::machine::{configuration, Report, Settings, FCS, MOST_FRAMES};
 use crate::paper::{Body, Information, Part, BODY, MOST_ASKED, MOST_ATTRIBUTES};
@@ -65,15 +65,15 @@ fn script(own: (u8, u16), peer: (u8, u16), responses: Vec<Call>) -> Directed {
     };
     let heard = local_of(peer);
     let mut calls = vec![reported(Report::LinkUp)];
-    // Each second has one frame of its own, so that the last response of each that
-    // could be granted is too many.
-    for some in responses.chunks(usize::from(MOST_FRAMES) - 1) {
+    // Eleven intervals have one or two frames that the ticks write. The last response
+    // is made twice more, so that one at least is too many where all could be granted.
+    for some in responses.chunks(usize::from(MOST_FRAMES) - 2) {
         calls.push(heard.clone());
-        calls.extend(second_of_ticks());
+        calls.extend(stretch_of_ticks());
         calls.extend_from_slice(some);
-        calls.extend(some.last().cloned());
+        calls.extend(vec![some[some.len() - 1].clone(); 2]);
     }
-    (settings, calls)
+    (settings, with_room(calls))
 }
 
 /// The peer's Information, with ignored bits set beside its maximum size.

@@ -73,6 +73,9 @@ impl Script {
             }
         }
         self.left -= 1;
+        if end.owed && random.one_in(16) {
+            return settling(random);
+        }
         let idle = matches!(self.mood, Mood::Silence | Mood::Reports | Mood::Hostile);
         if !idle && end.discovery != Discovery::SendAny && random.one_in(2) {
             return self.nearer(random, end);
@@ -144,6 +147,14 @@ fn silence(random: &mut Random, end: &End) -> Call {
     match random.one_in(64) {
         true => any_request(random, smaller_size(end)),
         false => Call::Tick,
+    }
+}
+
+/// A report that may write what is owed, or a link down, which mostly drops it.
+fn settling(random: &mut Random) -> Call {
+    match random.one_in(3) {
+        true => Call::Report(Report::LinkDown as u8),
+        false => Call::Report(report(random)),
     }
 }
 

@@ -1,9 +1,10 @@
 //! Settings are as claimed, and scripts reach what they are there for.
 
+use super::stretch::stretch_scripts;
 use super::*;
 use crate::library::machine::Call;
-use crate::paper::machine::{Discovery, End, Role, Settings};
-use crate::paper::LONGEST;
+use crate::paper::machine::{Discovery, End, Role, Settings, MOST_FRAMES};
+use crate::paper::{answer, LONGEST};
 use crate::random::Random;
 use std::collections::BTreeSet;
 
@@ -126,13 +127,37 @@ fn the_long_script_passes_65535() {
         stepped(&mut end, &call);
     }
     let (mut revision_wrapped, mut number_wrapped) = (false, false);
-    for _ in 0..WRAPPING_SECONDS {
+    for _ in 0..WRAPPING_ROUNDS {
         let before = end;
-        for call in wrapping_second() {
+        for call in wrapping_round() {
             stepped(&mut end, &call);
         }
         revision_wrapped |= end.revision < before.revision;
         number_wrapped |= end.event_number < before.event_number;
     }
     assert!(revision_wrapped && number_wrapped);
+}
+
+/// Of each script of the limit, the phase and the ticks behind ten frames in one
+/// interval: up to ten of them the last call is 13, and behind more it is granted.
+#[test]
+fn the_scripts_of_the_limit_are_of_every_phase_and_every_number_of_ticks() {
+    let mut seen = BTreeSet::new();
+    for (settings, turns) in stretch_scripts() {
+        let mut end = End::fresh(&settings).expect("in range");
+        let (mut phase, mut ticks, mut last) = (None, 0, None);
+        for turn in turns {
+            let step = turn.call.step(&end, &mut vec![0; turn.out]);
+            ticks += usize::from(turn.call == Call::Tick && step.is_ok());
+            last = step.err();
+            end = step.map_or(end, |step| step.end);
+            if end.intervals[0] == MOST_FRAMES {
+                (phase, ticks) = (Some(end.ticks), 0);
+            }
+        }
+        assert_eq!(last, (ticks <= 10).then_some(answer::LIMIT), "{ticks}");
+        seen.insert((phase, ticks));
+    }
+    let each = |phase| (1..=12).map(move |ticks| (Some(phase), ticks));
+    assert_eq!(seen, (0..10).flat_map(each).collect());
 }

@@ -2,7 +2,7 @@
 
 use crate::generate::encode;
 use crate::library::machine::Call;
-use crate::paper::machine::{configuration, Report, Settings, MOST_FRAMES, SECOND};
+use crate::paper::machine::{configuration, Report, Settings, MOST_FRAMES, STRETCH};
 use crate::paper::{Body, Information, Message, Part};
 
 /// The settings of its end, and of its peer.
@@ -15,35 +15,36 @@ pub const WRAPPING: Settings = Settings {
     required: 0,
 };
 
-/// Its timer seconds: nine notifications are written in each, and nine commands
-/// or more are obeyed.
-pub const WRAPPING_SECONDS: usize = 65_536 / NOTIFICATIONS + 1;
-const NOTIFICATIONS: usize = MOST_FRAMES as usize - 1;
-/// Enables and disables.
-const COMMANDS: u8 = 10;
+/// Its rounds: in each of them all notifications are written and all commands obeyed.
+pub const WRAPPING_ROUNDS: usize = 65_536 / NOTIFICATIONS + 1;
+/// One or two Information frames stand in the stretch beside them.
+const NOTIFICATIONS: usize = MOST_FRAMES as usize - 2;
+/// Enables and disables, as many as notifications.
+const COMMANDS: usize = NOTIFICATIONS;
 
-/// The calls that lead to SEND_ANY, and to the first second's end.
+/// The calls that lead to SEND_ANY, and to room for the first round.
 pub fn wrapping_start() -> Vec<Call> {
     let mut calls = vec![
         Call::Report(Report::LinkUp as u8),
         received(COMPLETE, local()),
     ];
-    calls.extend(second_of_ticks());
+    calls.extend(stretch_of_ticks());
     calls
 }
 
-/// The calls of one timer second.
-pub fn wrapping_second() -> Vec<Call> {
+/// The calls of one round.
+pub fn wrapping_round() -> Vec<Call> {
     let event = vec![4, 1, 2, 3, 4, 5, 6];
     let mut calls = vec![Call::Notify(event); NOTIFICATIONS];
-    let commands = (0..COMMANDS).map(|place| place % 2 + 1);
+    let commands = [1, 2].into_iter().cycle().take(COMMANDS);
     calls.extend(commands.map(|command| received(COMPLETE, Body::Loopback { command })));
-    calls.extend(second_of_ticks());
+    calls.extend(stretch_of_ticks());
     calls
 }
 
-pub fn second_of_ticks() -> Vec<Call> {
-    vec![Call::Tick; SECOND.into()]
+/// Ticks after which no frame counts that was written before them.
+pub fn stretch_of_ticks() -> Vec<Call> {
+    vec![Call::Tick; STRETCH]
 }
 
 /// The flags of a peer whose discovery is complete.

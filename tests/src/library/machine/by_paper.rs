@@ -1,5 +1,4 @@
-//! The paper's machine in the archive's place, with a layout of its own for the
-//! state.
+//! The paper's machine in the archive's place, with its own packing of a state.
 
 use super::{Call, Machine, RECEIVED, STATE_OCTETS};
 use crate::library::by_paper::{header_of, stored};
@@ -13,7 +12,7 @@ const WIDTHS: [usize; PACKED_NUMBERS] = [
     1, 1, 1, // link up, lost-link count, kept field
     1, 1, 2, 1, 1, 2, 3, 4, // the record
     1, 2, // the last event number
-    1, 1, 1, 2, 2, // role, ticks, frames written, revision, next event number
+    1, 1, 6, 2, 2, // role, ticks, the intervals, revision, next event number
     1, 1, 1, // dying gasp, critical event, owed
 ];
 
@@ -98,7 +97,7 @@ fn received(frame: &[u8], shown: Shown) -> [u64; RECEIVED] {
 pub fn packed(end: &End) -> [u8; STATE_OCTETS] {
     let mut state = [0; STATE_OCTETS];
     let mut rest = &mut state[..];
-    for (number, width) in end.numbers().into_iter().zip(WIDTHS) {
+    for (number, width) in end.packed_numbers().into_iter().zip(WIDTHS) {
         let (here, behind) = rest.split_at_mut(width);
         here.copy_from_slice(&number.to_be_bytes()[8 - width..]);
         rest = behind;
@@ -174,18 +173,22 @@ mod tests {
     fn fresh_stores_a_state_or_nothing() {
         let mut longer = [0xEE; STATE_OCTETS + 1];
         assert_eq!(ByPaper.fresh(&SETTINGS, &mut longer), 10);
-        assert_eq!(ByPaper.fresh(&SETTINGS, &mut longer[..47]), 10);
+        assert_eq!(
+            ByPaper.fresh(&SETTINGS, &mut longer[..STATE_OCTETS - 1]),
+            10
+        );
         let settings = Settings {
             size: 63,
             ..SETTINGS
         };
-        assert_eq!(ByPaper.fresh(&settings, &mut longer[..48]), 10);
+        assert_eq!(ByPaper.fresh(&settings, &mut longer[..STATE_OCTETS]), 10);
         assert_eq!(longer, [0xEE; STATE_OCTETS + 1]);
-        let mut numbers = [OLD; 29];
+        let mut numbers = [OLD; END_NUMBERS + 1];
         assert_eq!(ByPaper.show(&fresh(), &mut numbers), 0);
         let settings = [0x0F, 1518, 1, 2, 3, 0];
         assert_eq!(numbers[..6], settings);
-        assert_eq!((&numbers[6..28], numbers[28]), (&[0; 22][..], OLD));
+        assert_eq!(numbers[6..END_NUMBERS], [0; END_NUMBERS - 6]);
+        assert_eq!(numbers[END_NUMBERS], OLD);
     }
 
     #[test]
@@ -196,7 +199,8 @@ mod tests {
         assert_eq!(call(&Call::Start, &mut state, 60), octet | 15);
         assert_eq!(call(&Call::Request(vec![]), &mut state, 60), octet | 10);
         assert_eq!(call(&Call::Report(2), &mut state, 60), octet | 60 << 8);
-        assert_eq!(state[41..43], [0, 1]); // the revision
+        assert_eq!(state[40..46], [0, 0, 0, 0, 0, 4]); // the intervals
+        assert_eq!(state[46..48], [0, 1]); // the revision
     }
 
     /// The state first, then the report's number or the header, then the output,
@@ -220,7 +224,7 @@ mod tests {
         assert_eq!(call(&Call::Report(6), &mut state, 0), 10);
         assert_eq!(receive(&mut state, 3, 0), 10);
         assert_eq!(ByPaper.show(&state, &mut []), 10);
-        assert_eq!(ByPaper.show(&fresh(), &mut [0; 27]), 9);
+        assert_eq!(ByPaper.show(&fresh(), &mut [0; END_NUMBERS - 1]), 9);
     }
 
     /// No calls make an end that loops without bit 2 of its own.
@@ -230,10 +234,54 @@ mod tests {
         state[0] &= !4; // the configuration
         assert_eq!(unpacked(&state), None);
         assert_eq!(call(&Call::Tick, &mut state, 60), 10);
-        assert_eq!(ByPaper.show(&state, &mut [0; 28]), 10);
+        assert_eq!(ByPaper.show(&state, &mut [0; END_NUMBERS]), 10);
         let loops = unpacked_with(&state, &[Breach::LoopingWithoutBit2]);
         assert_eq!(loops.map(|end| packed(&end)), Some(state));
         assert_eq!(unpacked_with(&state, &[Breach::EventWithoutRecord]), None);
+    }
+
+    /// The octets 39 and 40 to 45 of a state: ticks, and eleven digits of four bits.
+    #[test]
+    fn a_damaged_meter_is_refused() {
+        let meter = |ticks: u8, intervals: u64| {
+            let mut state = fresh();
+            state[39] = ticks;
+            state[40..46].copy_from_slice(&intervals.to_be_bytes()[2..]);
+            state
+        };
+        for (ticks, intervals, written) in [
+            (9, 0, 0),
+            (0, 0xA, 10),
+            (0, 0xA00_0000_0000, 10),
+            (9, 0x100_1111_1111, 9),
+            (9, 0x600_0000_0004, 10),
+        ] {
+            let mut numbers = [OLD; END_NUMBERS];
+            let state = meter(ticks, intervals);
+            assert_eq!(ByPaper.show(&state, &mut numbers), 0, "{intervals:x}");
+            assert_eq!(numbers[20..22], [ticks.into(), written]);
+            assert_eq!(numbers[28], intervals);
+            assert_eq!(unpacked(&state).map(|end| packed(&end)), Some(state));
+        }
+        for (ticks, intervals) in [
+            (10, 0),
+            (0xFF, 0),
+            (0, 0xB),
+            (0, 0xB00_0000_0000),
+            (0, 0x111_1111_1111), // eleven digits of 1
+            (9, 0x600_0000_0005),
+            (0, 0xFFF_FFFF_FFFF), // their sum is 165
+            (0, 1 << 44),
+            (0, 1 << 47),
+        ] {
+            let mut state = meter(ticks, intervals);
+            assert_eq!(
+                ByPaper.show(&state, &mut [0; END_NUMBERS]),
+                10,
+                "{intervals:x}"
+            );
+            assert_eq!(call(&Call::Tick, &mut state, 60), 10);
+        }
     }
 
     #[test]

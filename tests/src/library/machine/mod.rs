@@ -1,19 +1,21 @@
 //! The archive's functions for the link machine, with slices in the place of
-//! pointers and lengths. An end's state lives in octets that the caller lends;
-//! their layout is the library's own business.
+//! pointers and lengths. An end's state lives in octets that the caller lends, its
+//! numbers one after another (docs/DECISIONS.md).
 
 #[cfg(feature = "archive")]
 mod archive;
 mod by_paper;
 mod call;
+mod turn;
 
 pub use by_paper::{called, packed, shown, unpacked, unpacked_with};
 pub use call::Call;
+pub use turn::Turn;
 
 use crate::paper::machine::Settings;
 
 /// Octets of a state.
-pub const STATE_OCTETS: usize = 48;
+pub const STATE_OCTETS: usize = 53;
 /// Values that an accepted frame stores: source, flags, code, and the event
 /// number where the events are new.
 pub const RECEIVED: usize = 4;

@@ -6,7 +6,7 @@ use crate::paper::{answer, read, Body, Information, Message, Part, SHORTEST};
 
 /// The lost-link count that enters FAULT.
 pub const LOST_LINK: u8 = 50;
-/// Ticks of a timer second.
+/// Ticks of a timer second, the last of which makes an Information frame due.
 pub const SECOND: u8 = 10;
 
 /// The flag field that keeps the last value.
@@ -47,11 +47,11 @@ impl End {
         }
         next.run_moves();
         next.account(self, false);
+        next.open_interval();
         next.ticks += 1;
         if next.ticks == SECOND {
             next.ticks = 0;
-            next.written = 0;
-            next.owed = next.allows_information(); // the second's own frame is due
+            next.owed = next.allows_information(); // the tenth tick's frame is due
         }
         Ok(next.settle(Shown::Nothing, out))
     }

@@ -21,7 +21,7 @@ pub use inputs::{Report, LOST_LINK, SECOND};
 pub use loopback::Role;
 pub use numbers::{END_NUMBERS, PACKED_NUMBERS};
 pub use requests::FCS;
-pub use sending::MOST_FRAMES;
+pub use sending::{MOST_FRAMES, STRETCH};
 pub use settings::{configuration, Settings, SIZES, SMALLEST_SIZE};
 pub use unmade::Breach;
 
@@ -44,10 +44,10 @@ pub struct End {
     /// The last event number received.
     pub last_event: Option<u16>,
     pub role: Role,
-    /// Ticks since the timer second closed, or since fresh.
+    /// Ticks since the last tenth one, or since fresh.
     pub ticks: u8,
-    /// Frames written since then.
-    pub written: u8,
+    /// Frames written in each of the newest tick intervals, the present one first.
+    pub intervals: [u8; STRETCH],
     pub revision: u16,
     /// The number of the next notification.
     pub event_number: u16,
@@ -92,7 +92,7 @@ impl End {
             last_event: None,
             role: Role::Idle,
             ticks: 0,
-            written: 0,
+            intervals: [0; STRETCH],
             revision: 0,
             event_number: 0,
             dying_gasp: false,

@@ -2,7 +2,7 @@
 //! 15, 12, 13, 9, and an accepted one writes its own frame, never an owed one.
 
 use super::loopback::{DISABLE, ENABLE};
-use super::{Discovery, End, Role, Shown, Step, MOST_FRAMES};
+use super::{Discovery, End, Role, Shown, Step};
 use crate::paper::{answer, DraftBody, Information, LONGEST};
 
 /// Octets that a maximum size counts beyond the frame.
@@ -103,12 +103,12 @@ impl End {
 
     /// This end with one frame more written, or 13, then 9.
     pub(super) fn grant(mut self, frame: &[u8], out: &mut [u8]) -> Result<Step, u8> {
-        if self.written >= MOST_FRAMES {
+        if !self.has_room() {
             return Err(answer::LIMIT);
         }
         let place = out.get_mut(..frame.len()).ok_or(answer::OUTPUT)?;
         place.copy_from_slice(frame);
-        self.written += 1;
+        self.count_frame();
         Ok(Step {
             end: self,
             length: frame.len(),

@@ -1,10 +1,12 @@
 //! What an end sends: its flags, its Information frame, when one is owed, and
-//! the limit of ten.
+//! the limit of ten (change request (ii)).
 
 use super::{Discovery, End, Shown, Step};
 use crate::paper::{write, Draft, DraftBody, Information, NUMBERS};
 
-/// The most frames of one timer second.
+/// "One second can touch eleven tick intervals": the present one and ten before it.
+pub const STRETCH: usize = 11;
+/// The most frames of so many successive intervals.
 pub const MOST_FRAMES: u8 = 10;
 
 /// The version of a Local TLV.
@@ -70,6 +72,27 @@ impl End {
         write(&draft, out)
     }
 
+    /// Frames written in the present interval and the ten before it.
+    pub fn written(&self) -> u8 {
+        self.intervals.iter().sum()
+    }
+
+    /// Whether the limit lets one frame more go.
+    pub(super) fn has_room(&self) -> bool {
+        self.written() < MOST_FRAMES
+    }
+
+    /// A frame counts in the interval of its writing.
+    pub(super) fn count_frame(&mut self) {
+        self.intervals[0] += 1;
+    }
+
+    /// A tick's own frame counts in the interval that this tick opens.
+    pub(super) fn open_interval(&mut self) {
+        self.intervals.copy_within(..STRETCH - 1, 1);
+        self.intervals[0] = 0;
+    }
+
     /// Closes a call that came from `before`: the revision, and what is owed.
     pub(super) fn account(&mut self, before: &End, obeyed: bool) {
         let octet_changed = self.role.octet() != before.role.octet();
@@ -84,10 +107,10 @@ impl End {
     /// has room for it.
     pub(super) fn settle(mut self, shown: Shown, out: &mut [u8]) -> Step {
         let mut length = 0;
-        if self.owed && self.written < MOST_FRAMES {
+        if self.owed && self.has_room() {
             let written = self.write(self.information(), out);
             length = written.expect("an Information frame is plain and has 60 octets");
-            self.written += 1;
+            self.count_frame();
             self.owed = false;
         }
         Step {

@@ -7,6 +7,7 @@ mod loopback;
 mod requests;
 mod responding;
 mod sending;
+mod stretch;
 
 use super::*;
 use crate::paper::tests::octets;
@@ -152,11 +153,14 @@ impl Tried {
         self.call(|end, out| end.organization(0xA0_B1C2, &[7; 39], out))
     }
 
-    /// Writes frames until ten are written in this second.
-    fn fill_second(&mut self) {
-        while self.end.written < MOST_FRAMES {
-            assert_eq!(self.organize(), answer::ACCEPTED);
-        }
+    /// Writes frames until ten stand in the stretch.
+    fn fill_stretch(&mut self) {
+        let left = MOST_FRAMES - self.end.written();
+        self.requests(left.into());
+    }
+
+    fn requests(&mut self, count: usize) {
+        (0..count).for_each(|_| assert_eq!(self.organize(), answer::ACCEPTED));
     }
 
     /// What was sent is an Information frame with these flags and TLVs.
@@ -167,6 +171,13 @@ impl Tried {
     fn assert_silent(&self) {
         assert_eq!(self.sent, []);
     }
+}
+
+/// The intervals of an end that has written so many frames, all in the present one.
+fn only_now(frames: u8) -> [u8; STRETCH] {
+    let mut intervals = [0; STRETCH];
+    intervals[0] = frames;
+    intervals
 }
 
 /// Frame seconds: 18 octets.

@@ -2,13 +2,12 @@
 //! own, and all that must be alike behind it.
 
 use super::difference::Differences;
-use crate::library::machine::{packed, unpacked, Machine, Outcome};
+use crate::library::machine::{packed, unpacked, Machine, Turn};
 use crate::library::ByPaper;
 use crate::paper::answer;
 use crate::paper::machine::{End, Settings, END_NUMBERS};
 use crate::random::Random;
 use crate::trial::lent::Lent;
-use crate::trial::turn::Turn;
 
 #[derive(Clone)]
 pub struct Bout<'a> {
@@ -27,14 +26,13 @@ impl<'a> Bout<'a> {
         settings: &Settings,
         length: usize,
     ) -> Result<Option<Self>, String> {
-        let lent = Lent::octets(random, length);
-        let (mut expected, mut found) = (lent.clone(), lent.clone());
+        let mut expected = Lent::octets(random, length);
+        let mut found = expected.clone();
         let expected_answer = ByPaper.fresh(settings, expected.slice_mut());
         let found_answer = library.fresh(settings, found.slice_mut());
         let mut differences = Differences::default();
         differences.number("answer", expected_answer, found_answer);
         let accepted = expected_answer == answer::ACCEPTED.into();
-        differences.state(accepted, &lent, &found);
         let bout = Bout {
             library,
             expected,
@@ -43,6 +41,7 @@ impl<'a> Bout<'a> {
         if accepted && differences.are_none() {
             bout.show(random, &mut differences);
         }
+        differences.state(&bout.expected, &bout.found);
         let told = || format!("oam_fresh {settings:x?}, lent {length}");
         differences.none_or(told)?;
         Ok(accepted.then_some(bout))
@@ -71,7 +70,6 @@ impl<'a> Bout<'a> {
 
     /// Makes a call of both, and gives its outcome where nothing differs.
     pub fn turn(&mut self, random: &mut Random, turn: &Turn) -> Result<u64, String> {
-        let before = self.found.clone();
         let mut expected_header = Lent::numbers(random, turn.header);
         let mut found_header = expected_header.clone();
         let mut expected_out = Lent::octets(random, turn.out);
@@ -94,9 +92,8 @@ impl<'a> Bout<'a> {
         differences.memory("the header", &expected_header, &found_header);
         differences.memory("the output", &expected_out, &found_out);
         differences.given(&turn.call, &given);
-        let accepted = Outcome::of(expected).answer == answer::ACCEPTED;
-        differences.state(accepted, &before, &self.found);
         self.show(random, &mut differences);
+        differences.state(&self.expected, &self.found);
         differences.none_or(|| turn.to_string())?;
         Ok(expected)
     }

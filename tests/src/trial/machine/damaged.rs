@@ -1,8 +1,7 @@
 //! Damaged states: each is refused, and nothing changes, or it is a state, and
-//! then behaves like the paper's machine at the numbers that it shows. Where the
-//! library lays an end out as docs/DECISIONS.md says, its numbers one after
-//! another, it is also known which of the two must come, and states of ends that
-//! no calls make are made on purpose.
+//! then behaves like the paper's machine at the numbers that it shows. The paper's
+//! own packing says which of the two must come. States of ends that no calls make
+//! are made on purpose.
 
 use super::bout::Bout;
 use super::lend;
@@ -10,16 +9,21 @@ use super::played::Played;
 use super::unmade::Unmade;
 use crate::compare::hex;
 use crate::generate::machine::Script;
-use crate::library::machine::{packed, unpacked, Call, Machine, RECEIVED, STATE_OCTETS};
+use crate::library::machine::{unpacked, Call, Machine, Turn, RECEIVED, STATE_OCTETS};
 use crate::paper::answer;
-use crate::paper::machine::{End, END_NUMBERS};
+use crate::paper::machine::{End, END_NUMBERS, MOST_FRAMES, SECOND, STRETCH};
 use crate::random::Random;
 use crate::trial::lent::Lent;
 use crate::trial::report::{Report, Tally};
-use crate::trial::turn::Turn;
+use std::ops::Range;
 
 /// Calls of an end whose state was damaged.
 const CALLS: usize = 12;
+
+/// Where the ticks and the intervals of an end are packed, and bit 44 of the latter.
+pub const TICKS_AT: usize = 39;
+pub const INTERVALS_AT: Range<usize> = 40..46;
+pub const BIT_44: u8 = 1 << 4;
 
 #[derive(Clone, Copy, Debug, PartialEq, Eq, PartialOrd, Ord)]
 enum Damage {
@@ -29,16 +33,26 @@ enum Damage {
     AllOctets,
     Zeros,
     Ones,
+    TicksTen,
+    /// Ten frames in the intervals, which is a state.
+    TenFrames,
+    ElevenFrames,
+    /// A bit above the eleven intervals.
+    Bit44,
 }
 
 impl Damage {
-    const ALL: [Damage; 6] = [
+    const ALL: [Damage; 10] = [
         Damage::OtherLength,
         Damage::Bits,
         Damage::Octet,
         Damage::AllOctets,
         Damage::Zeros,
         Damage::Ones,
+        Damage::TicksTen,
+        Damage::TenFrames,
+        Damage::ElevenFrames,
+        Damage::Bit44,
     ];
 
     fn befall(self, random: &mut Random, state: &mut Vec<u8>) {
@@ -58,8 +72,23 @@ impl Damage {
             Damage::AllOctets => *state = random.octets(length),
             Damage::Zeros => state.fill(0),
             Damage::Ones => state.fill(0xFF),
+            Damage::TicksTen => state[TICKS_AT] = SECOND,
+            Damage::TenFrames => {
+                state[INTERVALS_AT].copy_from_slice(&intervals_of(random, MOST_FRAMES));
+            }
+            Damage::ElevenFrames => {
+                state[INTERVALS_AT].copy_from_slice(&intervals_of(random, MOST_FRAMES + 1));
+            }
+            Damage::Bit44 => state[INTERVALS_AT.start] |= BIT_44,
         }
     }
+}
+
+/// So many frames in any of eleven intervals, as they are packed.
+fn intervals_of(random: &mut Random, frames: u8) -> Vec<u8> {
+    let frame = |random: &mut Random| 1_u64 << (4 * random.below(STRETCH));
+    let intervals: u64 = (0..frames).map(|_| frame(random)).sum();
+    intervals.to_be_bytes()[8 - INTERVALS_AT.len()..].to_vec()
 }
 
 pub struct Damaged {
@@ -73,10 +102,12 @@ pub struct Damaged {
 
 impl Damaged {
     pub fn new() -> Self {
-        let refused = Damage::ALL.map(|damage| (damage, false));
-        let taken = [(Damage::Bits, true), (Damage::Octet, true)];
+        let refusable = |damage: &Damage| *damage != Damage::TenFrames;
+        let refused = Damage::ALL.into_iter().filter(refusable);
+        let taken = [Damage::Bits, Damage::Octet, Damage::TenFrames];
+        let taken = taken.map(|damage| (damage, true));
         Damaged {
-            states: Tally::expecting(refused.into_iter().chain(taken)),
+            states: Tally::expecting(refused.map(|damage| (damage, false)).chain(taken)),
             refused: Tally::expecting(Call::NAMES),
             calls: 0,
             unmade: Unmade::new(),
@@ -90,7 +121,6 @@ impl Damaged {
         script: &mut Script,
         played: &Played,
     ) -> Result<(), String> {
-        let laid_out = played.bout.state() == packed(&played.end());
         for damage in Damage::ALL {
             let mut octets = played.bout.state().to_vec();
             damage.befall(random, &mut octets);
@@ -103,7 +133,7 @@ impl Damaged {
             };
             let shown = shown(library, random, &state).map_err(told)?;
             self.states.count((damage, shown.is_some()));
-            if laid_out && unpacked(&octets).is_some() != shown.is_some() {
+            if unpacked(&octets).is_some() != shown.is_some() {
                 let does = if shown.is_some() { "takes" } else { "refuses" };
                 return Err(told(format!("oam_show {does} it, and the paper does not")));
             }
@@ -113,10 +143,7 @@ impl Damaged {
             }
             .map_err(told)?;
         }
-        match laid_out {
-            true => self.unmade.try_one(random, played),
-            false => Ok(()),
-        }
+        self.unmade.try_one(random, played)
     }
 
     /// A call of a state that is none.

@@ -36,6 +36,7 @@ const NAMES: [&str; END_NUMBERS] = [
     "critical event",
     "owed",
     "discovery",
+    "intervals",
 ];
 
 #[derive(Default)]
@@ -87,14 +88,12 @@ impl Differences {
         }
     }
 
-    /// The octets of a state are the library's own business, but a refusal keeps
-    /// them, and no call stores beside them.
-    pub fn state(&mut self, accepted: bool, before: &Lent<u8>, found: &Lent<u8>) {
-        let mut expected = before.clone();
-        if accepted {
-            expected.slice_mut().copy_from_slice(found.slice());
+    /// The octets of a state, and what is beside them. The numbers tell better where
+    /// an end is another.
+    pub fn state(&mut self, expected: &Lent<u8>, found: &Lent<u8>) {
+        if self.0.is_empty() {
+            self.memory("the state", expected, found);
         }
-        self.memory("the state", &expected, found);
     }
 
     /// Numbers that were shown, or memory that had to stay.

@@ -13,8 +13,8 @@ pub enum Happening {
     OwedWrittenLater,
     OwedDropped,
     OwedOverLostLink,
-    SecondClosed,
-    SecondFull,
+    TenthTick,
+    StretchFull,
     LinkLost,
     SendAnyBegun,
     SendAnyLeft,
@@ -47,8 +47,8 @@ impl Happening {
         Happening::OwedWrittenLater,
         Happening::OwedDropped,
         Happening::OwedOverLostLink,
-        Happening::SecondClosed,
-        Happening::SecondFull,
+        Happening::TenthTick,
+        Happening::StretchFull,
         Happening::LinkLost,
         Happening::SendAnyBegun,
         Happening::SendAnyLeft,
@@ -75,10 +75,10 @@ impl Happening {
 
 /// A call, and the paper's ends before and after it.
 pub struct Seen<'a> {
-    before: &'a End,
-    after: &'a End,
-    call: &'a Call,
-    outcome: &'a Outcome,
+    pub before: &'a End,
+    pub after: &'a End,
+    pub call: &'a Call,
+    pub outcome: &'a Outcome,
     message: Option<Message<'a>>,
 }
 
@@ -96,6 +96,11 @@ impl<'a> Seen<'a> {
             outcome,
             message,
         }
+    }
+
+    /// Whether it is an accepted tick that makes a frame due, if one is allowed.
+    pub fn is_tenth_tick(&self) -> bool {
+        self.after.ticks < self.before.ticks
     }
 
     pub fn happenings(&self) -> Vec<Happening> {
@@ -130,10 +135,10 @@ impl<'a> Seen<'a> {
                 before.owed && wrote && !is_request,
             ),
             (Happening::OwedDropped, before.owed && !after.owed && !wrote),
-            (Happening::SecondClosed, after.ticks < before.ticks),
+            (Happening::TenthTick, self.is_tenth_tick()),
             (
-                Happening::SecondFull,
-                before.written < MOST_FRAMES && after.written == MOST_FRAMES,
+                Happening::StretchFull,
+                before.written() < MOST_FRAMES && after.written() == MOST_FRAMES,
             ),
             (Happening::RevisionChanged, changed),
             (Happening::RevisionWrapped, changed && after.revision == 0),

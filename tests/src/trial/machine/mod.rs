@@ -5,6 +5,7 @@ mod bout;
 mod damaged;
 mod difference;
 mod happening;
+mod limiting;
 mod played;
 mod responding;
 mod unmade;
@@ -14,18 +15,18 @@ pub mod tests;
 
 use super::lent::Room;
 use super::report::{Report, Tally};
-use super::turn::Turn;
 use crate::generate::machine::{
-    any_settings, directed_scripts, wrapping_second, wrapping_start, Script, SettingsFault,
-    WRAPPING, WRAPPING_SECONDS,
+    any_settings, directed_scripts, wrapping_round, wrapping_start, Script, SettingsFault,
+    WRAPPING, WRAPPING_ROUNDS,
 };
-use crate::library::machine::{Call, Machine, Outcome, RECEIVED, STATE_OCTETS};
+use crate::library::machine::{Call, Machine, Outcome, Turn, RECEIVED, STATE_OCTETS};
 use crate::paper::machine::{Discovery, End, Role, Settings};
 use crate::paper::{answer, LONGEST, SHORTEST};
 use crate::random::Random;
 use bout::Bout;
 use damaged::Damaged;
 use happening::{Happening, Seen};
+use limiting::Limiting;
 use played::Played;
 use responding::Responding;
 
@@ -53,6 +54,7 @@ struct Trial<'a> {
     rooms: Tally<(Room, bool)>,
     stands: Tally<(Discovery, Role)>,
     happenings: Tally<Happening>,
+    limiting: Tally<Limiting>,
     /// Refusals with a State octet other than 00.
     busy: Tally<(&'static str, u8)>,
     responding: Responding,
@@ -73,6 +75,7 @@ impl<'a> Trial<'a> {
             rooms: Tally::expecting(possible_rooms()),
             stands: Tally::expecting(possible_stands()),
             happenings: Tally::expecting(Happening::ALL),
+            limiting: Limiting::tally(calls),
             busy: Tally::expecting(possible_busy()),
             responding: Responding::new(calls),
             damaged: Damaged::new(),
@@ -126,27 +129,27 @@ impl<'a> Trial<'a> {
     /// The scripts for what chance would hardly find, and the long one in which
     /// the revision and the event number wrap.
     fn directed_scripts(&mut self) -> Result<(), String> {
-        for (settings, calls) in directed_scripts() {
-            self.directed(&settings, calls.into_iter())?;
+        for (settings, turns) in directed_scripts() {
+            self.directed(&settings, turns.into_iter())?;
         }
-        let seconds = (0..WRAPPING_SECONDS).flat_map(|_| wrapping_second());
-        let calls = wrapping_start().into_iter().chain(seconds);
-        self.directed(&WRAPPING, calls)
+        let rounds = (0..WRAPPING_ROUNDS).flat_map(|_| wrapping_round());
+        let calls = wrapping_start().into_iter().chain(rounds);
+        self.directed(&WRAPPING, calls.map(Turn::with_room))
     }
 
     fn directed(
         &mut self,
         settings: &Settings,
-        calls: impl Iterator<Item = Call>,
+        turns: impl Iterator<Item = Turn>,
     ) -> Result<(), String> {
         let bout = Bout::fresh(self.library, &mut self.random, settings, STATE_OCTETS)?;
         let bout = bout.ok_or("the settings of a directed script are refused")?;
         let mut played = Played::new(self.library, *settings, bout);
-        for call in calls {
-            if let Call::Respond { .. } = call {
-                self.without_room(&mut played, &call)?;
+        for turn in turns {
+            if let Call::Respond { .. } = turn.call {
+                self.without_room(&mut played, &turn.call)?;
             }
-            self.turn(&mut played, Turn::with_room(call))?;
+            self.turn(&mut played, turn)?;
         }
         Ok(())
     }
@@ -162,11 +165,15 @@ impl<'a> Trial<'a> {
         self.turn(played, turn).map(drop)
     }
 
-    /// Makes a call with any room.
+    /// Makes a call with any room. What comes of the limit must come of such calls, so
+    /// that it comes in many ways.
     fn call(&mut self, played: &mut Played, call: Call) -> Result<u8, String> {
         let (turn, room) = lend(&mut self.random, call, &played.end());
         let answer = self.turn(played, turn)?;
         self.rooms.count((room, answer == answer::OUTPUT));
+        for limiting in &played.limiting {
+            self.limiting.count(*limiting);
+        }
         Ok(answer)
     }
 
@@ -188,7 +195,9 @@ impl<'a> Trial<'a> {
         for happening in seen.happenings() {
             self.happenings.count(happening);
         }
+        let limits = played.owing.after(&seen);
         self.responding.note(&before, played.last_call(), &outcome);
+        (played.owing, played.limiting) = limits;
         Ok(outcome.answer)
     }
 
@@ -222,6 +231,9 @@ impl<'a> Trial<'a> {
         });
         report.add("what came of calls", &self.happenings, |happening| {
             format!("{happening:?}")
+        });
+        report.add("what came of the limit", &self.limiting, |limiting| {
+            format!("{limiting:?}")
         });
         self.responding.report(&mut report);
         self.damaged.report(&mut report);

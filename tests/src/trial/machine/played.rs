@@ -1,11 +1,11 @@
 //! A script as far as it was played, kept so that it can be told.
 
 use super::bout::Bout;
+use super::limiting::{Limiting, Owing};
 use crate::compare::last_lines;
-use crate::library::machine::{Call, Machine, STATE_OCTETS};
+use crate::library::machine::{Call, Machine, Turn, STATE_OCTETS};
 use crate::paper::machine::{End, Settings};
 use crate::random::Random;
-use crate::trial::turn::Turn;
 
 /// A longer script is not shortened.
 const MOST_SHORTENED: usize = 2_000;
@@ -14,6 +14,10 @@ pub struct Played<'a> {
     library: &'a dyn Machine,
     settings: Settings,
     pub bout: Bout<'a>,
+    /// What is known of the frame that is owed, and what came of the limit by the
+    /// last call.
+    pub owing: Owing,
+    pub limiting: Vec<Limiting>,
     turns: Vec<Turn>,
 }
 
@@ -23,6 +27,8 @@ impl<'a> Played<'a> {
             library,
             settings,
             bout,
+            owing: Owing::default(),
+            limiting: Vec::new(),
             turns: Vec::new(),
         }
     }

@@ -43,6 +43,17 @@ fn each_slip_is_found() {
     }
 }
 
+/// The slips of change request (ii).
+#[test]
+fn each_slip_in_the_limit_is_found_by_directed_scripts_alone() {
+    assert_eq!(Slip::in_limit().count(), 8);
+    for slip in Slip::in_limit() {
+        let report = machine(&Slipping::new(slip), SEED, 0);
+        let differs = |fault: &String| !fault.starts_with("never reached: ");
+        assert!(report.faults.iter().any(differs), "{slip:?}");
+    }
+}
+
 /// The slips of change request (i), each in the call that it is made in.
 #[test]
 fn each_slip_in_responses_is_found_in_one() {

@@ -4,13 +4,12 @@
 use super::damaged::{refuses, shown};
 use super::played::Played;
 use crate::generate::any_frame;
-use crate::library::machine::{packed, unpacked_with, Call, Machine, RECEIVED};
+use crate::library::machine::{packed, unpacked_with, Call, Machine, Turn, RECEIVED};
 use crate::paper::machine::{configuration, Breach, End, Report as Reported, Role, COMPLETE};
 use crate::paper::{Information, LONGEST, NUMBERS};
 use crate::random::Random;
 use crate::trial::lent::Lent;
 use crate::trial::report::{Report, Tally};
-use crate::trial::turn::Turn;
 
 pub struct Unmade {
     /// The rule that is broken, and the role.

@@ -8,10 +8,9 @@ mod side;
 mod tests;
 
 use super::report::{Report, Tally};
-use super::turn::Turn;
 use crate::compare::last_lines;
 use crate::generate::machine::{any_request, paired_settings};
-use crate::library::machine::{Call, Machine, RECEIVED};
+use crate::library::machine::{Call, Machine, Turn, RECEIVED};
 use crate::paper::machine::{Report as LinkReport, Settings, LOST_LINK};
 use crate::paper::LONGEST;
 use crate::random::Random;

@@ -2,13 +2,12 @@
 //! it, their outcomes, and the frames it wrote, as the paper's reader reads them.
 
 use super::link::Sent;
-use crate::library::machine::{Call, Machine, Outcome, STATE_OCTETS};
+use crate::library::machine::{Call, Machine, Outcome, Turn, STATE_OCTETS};
 use crate::paper::machine::{
-    Discovery, Report, Role, Settings, COMPLETE, END_NUMBERS, LOST_LINK, MOST_FRAMES, SECOND,
+    Discovery, Report, Role, Settings, COMPLETE, END_NUMBERS, LOST_LINK, MOST_FRAMES, STRETCH,
 };
 use crate::paper::{answer, read, Body, LONGEST};
 use crate::trial::report::Tally;
-use crate::trial::turn::Turn;
 
 pub struct Side<'a> {
     library: &'a dyn Machine,
@@ -18,10 +17,8 @@ pub struct Side<'a> {
     octet: u8,
     in_send_any: bool,
     pub link_is_up: bool,
-    /// Accepted ticks of this timer second.
-    ticks: u8,
-    /// Frames written in it.
-    written: usize,
+    /// Frames written in each tick interval from fresh on, the present one last.
+    frames: Vec<u8>,
     /// Accepted ticks since a frame was accepted, if ever one was.
     silence: Option<usize>,
     /// It has sent a frame that says its discovery was complete.
@@ -37,7 +34,8 @@ pub enum Sight {
     ResponseWritten,
     FrameAccepted,
     Refused,
-    SecondFull,
+    RefusedWith13,
+    StretchFull,
     SendAnyBegun,
     SendAnyLeft,
     LinkLost,
@@ -50,12 +48,13 @@ pub enum Sight {
 }
 
 impl Sight {
-    pub const ALL: [Sight; 14] = [
+    pub const ALL: [Sight; 15] = [
         Sight::FrameWritten,
         Sight::ResponseWritten,
         Sight::FrameAccepted,
         Sight::Refused,
-        Sight::SecondFull,
+        Sight::RefusedWith13,
+        Sight::StretchFull,
         Sight::SendAnyBegun,
         Sight::SendAnyLeft,
         Sight::LinkLost,
@@ -79,8 +78,7 @@ impl<'a> Side<'a> {
                 octet: Role::Idle.octet(),
                 in_send_any: false,
                 link_is_up: false,
-                ticks: 0,
-                written: 0,
+                frames: vec![0],
                 silence: None,
                 said_complete: false,
                 enabled: false,
@@ -110,7 +108,7 @@ impl<'a> Side<'a> {
         self.octet = outcome.octet;
         if outcome.answer != answer::ACCEPTED {
             sights.count(Sight::Refused);
-            return Ok(None);
+            return self.refused(&turn.call, outcome.answer, sights);
         }
         self.note(&turn.call);
         self.in_send_any = self.is_in_send_any();
@@ -128,15 +126,31 @@ impl<'a> Side<'a> {
         Ok(sent)
     }
 
+    /// Nothing is sent. 13 is for requests that find ten frames in the stretch; that
+    /// none of those is granted is the demand.
+    fn refused(
+        &self,
+        call: &Call,
+        answer: u8,
+        sights: &mut Tally<Sight>,
+    ) -> Result<Option<Sent>, String> {
+        let limited = answer == answer::LIMIT;
+        if limited {
+            sights.count(Sight::RefusedWith13);
+        }
+        let written = self.written();
+        match limited && !(call.is_request() && written == MOST_FRAMES) {
+            true => Err(format!("{call} is 13, and frames written are {written}")),
+            false => Ok(None),
+        }
+    }
+
     /// Notes an accepted call.
     fn note(&mut self, call: &Call) {
         match call {
             Call::Tick => {
                 self.silence = self.silence.map(|ticks| ticks + 1);
-                self.ticks = (self.ticks + 1) % SECOND;
-                if self.ticks == 0 {
-                    self.written = 0;
-                }
+                self.frames.push(0);
             }
             Call::Receive(_) => self.silence = Some(0),
             Call::Report(number) if *number == Report::LinkUp as u8 => self.link_is_up = true,
@@ -151,7 +165,7 @@ impl<'a> Side<'a> {
             return Ok(None);
         }
         let message = read(frame).map_err(|answer| format!("a written frame reads as {answer}"))?;
-        self.written += 1;
+        *self.frames.last_mut().expect("an interval") += 1;
         let field = (message.flags >> 3 & 3) as u8;
         self.said_complete |= field == COMPLETE;
         let enable = Body::Loopback { command: 1 };
@@ -181,7 +195,7 @@ impl<'a> Side<'a> {
         let (tick, ended) = (*call == Call::Tick, was_looping && !looping);
         let begun = looping && !was_looping;
         let silent = |ticks: u8| self.silence == Some(ticks.into());
-        let full = self.written == usize::from(MOST_FRAMES);
+        let full = self.written() == MOST_FRAMES;
         let seen = [
             (Sight::FrameWritten, wrote),
             (
@@ -189,7 +203,7 @@ impl<'a> Side<'a> {
                 wrote && matches!(call, Call::Respond { .. }),
             ),
             (Sight::FrameAccepted, accepted),
-            (Sight::SecondFull, wrote && full),
+            (Sight::StretchFull, wrote && full),
             (Sight::SendAnyBegun, any && !was_any),
             (Sight::SendAnyLeft, was_any && !any),
             (
@@ -210,11 +224,28 @@ impl<'a> Side<'a> {
         seen.map(|(sight, _)| sight).collect()
     }
 
+    /// The newest eleven intervals, the present one first. Every stretch of eleven is
+    /// this one at some moment.
+    fn newest(&self) -> impl Iterator<Item = u8> + '_ {
+        self.frames.iter().rev().take(STRETCH).copied()
+    }
+
+    fn written(&self) -> u8 {
+        self.newest().sum()
+    }
+
+    /// The same as they are shown, four bits each, the present one lowest.
+    fn intervals(&self) -> u64 {
+        let digits = self.newest().zip(0..);
+        digits
+            .map(|(frames, place)| u64::from(frames) << (4 * place))
+            .sum()
+    }
+
     /// The third demand, of this end.
     pub fn hold(&self, other: &Side) -> Result<(), String> {
         let numbers = self.shown()?;
-        let [.., discovery] = numbers;
-        let any = discovery == Discovery::SendAny as u64;
+        let any = numbers[27] == Discovery::SendAny as u64;
         let looping = self.is_looping();
         let recent = self.silence.is_some_and(|ticks| ticks < LOST_LINK.into());
         let demands = [
@@ -231,24 +262,40 @@ impl<'a> Side<'a> {
                 !looping || (self.said_complete && other.said_complete),
             ),
             ("fewer than fifty ticks have passed", !looping || recent),
-            ("ten frames a second", self.written <= MOST_FRAMES.into()),
-            (
-                "the number of frames written",
-                numbers[21] == self.written as u64,
-            ),
             ("discovery as it is shown", any == self.in_send_any),
             (
                 "the role as it is shown",
                 (numbers[19] == Role::Looping as u64) == looping,
             ),
         ];
-        match demands.iter().find(|(_, holds)| !holds) {
+        let mut demands = demands.into_iter().chain(self.limits(&numbers));
+        match demands.find(|(_, holds)| !holds) {
             None => Ok(()),
             Some((demand, _)) => Err(format!(
                 "this does not hold: {demand}; frames written {}, silence {:?}, numbers {numbers:?}",
-                self.written, self.silence
+                self.written(),
+                self.silence
             )),
         }
+    }
+
+    /// The demand's limit, and the numbers that speak of it.
+    fn limits(&self, numbers: &[u64; END_NUMBERS]) -> [(&'static str, bool); 3] {
+        let written = self.written();
+        [
+            (
+                "ten frames over eleven tick intervals",
+                written <= MOST_FRAMES,
+            ),
+            (
+                "the number of frames written",
+                numbers[21] == written.into(),
+            ),
+            (
+                "the intervals as they are shown",
+                numbers[28] == self.intervals(),
+            ),
+        ]
     }
 
     fn shown(&self) -> Result<[u64; END_NUMBERS], String> {

@@ -33,10 +33,25 @@ fn each_slip_against_the_demand_is_found() {
             Slip::LoopsWithoutEnable,
             "an end that loops has received an enable",
         ),
-        (Slip::ElevenFrames, "ten frames a second"),
+        (Slip::NineFrames, "is 13, and frames written are 9"),
+        (Slip::ElevenFrames, "ten frames over eleven tick intervals"),
         (
-            Slip::OwedBelongsToTheOldSecond,
-            "the number of frames written",
+            Slip::DueWrittenAsEleventh,
+            "ten frames over eleven tick intervals",
+        ),
+        (Slip::TimerSecond, "the number of frames written"),
+        (
+            Slip::RefusedTickOpensAnInterval,
+            "the intervals as they are shown",
+        ),
+        (
+            Slip::LinkDownTicksOpenNone,
+            "the intervals as they are shown",
+        ),
+        (Slip::TenIntervals, "the number of frames written"),
+        (
+            Slip::TicksFrameInTheIntervalBefore,
+            "the intervals as they are shown",
         ),
     ] {
         let report = pair(&Slipping::new(slip), SEED, 300_000);

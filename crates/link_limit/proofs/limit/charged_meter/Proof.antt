@@ -1,16 +1,19 @@
+use Prim.Native.Nat.{_/_}
 use mathlib.Core.Path.{sym, _∙_}
 use native.Mathlib.Omega.{arith}
 use borrow.Author.Tests.{ltb-true}
-use Rattle.link_limit.specs.Limit.{mostFrames, hasRoom, chargedMeter}
+use Rattle.link_limit.specs.Limit.{mostFrames, stretchIntervals, writtenFrames, hasRoom, chargedMeter}
+use Rattle.link_limit.proofs.Newest.{newest-step}
 use borrow.Author.Needs.{needs}
 use Rattle.link_limit.proofs.limit.charged_meter.Statement.{statement}
 use Rattle.link_limit.proofs.limit.charged_meter.Tie as tie
 
 add-t3 : tie.Need-add-t3
-unfolding hasRoom
+unfolding hasRoom writtenFrames
 add-t3 c =
-    let few = ltb-true (c .before .before .before .args .meter .written) mostFrames (sym (c .before .before .has-room .ensures) ∙ c .before .if1 .taken) in
-    omega (arith, few)
+    let m = c .before .before .before .args .meter in
+    let few = ltb-true (writtenFrames m) mostFrames (sym (c .before .before .has-room .ensures) ∙ c .before .if1 .taken) in
+    omega (arith, few, newest-step stretchIntervals (m .intervals) (omega arith))
 
 returns : tie.Need-returns
 unfolding chargedMeter

@@ -215,14 +215,14 @@ fn a_frame_with_the_link_down_still_writes_what_is_owed() {
         configuration: 0x1F,
         ..active()
     });
-    tried.fill_second();
+    tried.fill_stretch();
     tried.report(Report::LinkDown);
     tried.assert_silent();
     assert!(tried.end.owed);
-    tried.end.written = 9;
+    tried.end.intervals = only_now(9);
     tried.receive(&frame(DONE, "fe"));
     tried.assert_sent(0x0001, "");
-    assert_eq!((tried.end.written, tried.end.owed), (10, false));
+    assert_eq!((tried.end.written(), tried.end.owed), (10, false));
 }
 
 #[test]

@@ -76,7 +76,7 @@ fn a_fresh_unidirectional_end_sends_link_fault_at_the_tenth_tick() {
     }
     tried.tick();
     tried.assert_sent(0x0001, "");
-    assert_eq!((tried.end.written, tried.end.ticks), (1, 0));
+    assert_eq!((tried.end.written(), tried.end.ticks), (1, 0));
 }
 
 #[test]
@@ -86,8 +86,42 @@ fn another_fresh_end_is_silent_while_its_link_is_down() {
         tried.tick();
         tried.assert_silent();
     }
-    assert_eq!((tried.end.written, tried.end.lost_link), (0, 0));
+    assert_eq!((tried.end.written(), tried.end.lost_link), (0, 0));
 }
+
+/// The numbers of an end that loops, with an event number kept and frames in two
+/// intervals.
+const BUSY: [u64; END_NUMBERS] = [
+    0x1D,
+    1518,
+    0x1B21,
+    0xDEAD_BEEF,
+    0x0200_0000_0005,
+    0,
+    1,
+    1,
+    2,
+    1,
+    1,
+    7,
+    0,
+    0x0D,
+    0x200,
+    0xA0_B1C2,
+    0x0102_0304,
+    1,
+    0x0102,
+    4,
+    1,
+    4,
+    1,
+    0,
+    0,
+    1,
+    0,
+    5,
+    0x31,
+];
 
 #[test]
 fn an_end_is_its_numbers() {
@@ -96,38 +130,8 @@ fn an_end_is_its_numbers() {
     tried.receive(&frame(DONE, ENABLE_BODY));
     tried.tick();
     tried.report(Report::CriticalEventSet);
-    let numbers = [
-        0x1D,
-        1518,
-        0x1B21,
-        0xDEAD_BEEF,
-        0x0200_0000_0005,
-        0,
-        1,
-        1,
-        2,
-        1,
-        1,
-        7,
-        0,
-        0x0D,
-        0x200,
-        0xA0_B1C2,
-        0x0102_0304,
-        1,
-        0x0102,
-        4,
-        1,
-        4,
-        1,
-        0,
-        0,
-        1,
-        0,
-        5,
-    ];
-    assert_eq!(tried.end.numbers(), numbers);
-    assert_eq!(End::from_numbers(&numbers), Some(tried.end));
+    assert_eq!(tried.end.numbers(), BUSY);
+    assert_eq!(End::from_numbers(&BUSY), Some(tried.end));
 }
 
 #[test]
@@ -150,7 +154,8 @@ fn numbers_beyond_their_range_are_no_end() {
         (18, 1), // not held either
         (19, 5),
         (20, 10),
-        (21, 11),
+        (20, 255),
+        (21, 3), // not the sum of the intervals
         (22, 1 << 16),
         (23, 1 << 16),
         (24, 2),
@@ -158,10 +163,21 @@ fn numbers_beyond_their_range_are_no_end() {
         (26, 2),
         (27, 4), // the moves rest in SEND_ANY
         (27, 6),
+        (28, 0x01), // not as many as are written
     ];
     for (place, number) in beyond {
         let mut numbers = numbers;
         numbers[place] = number;
         assert_eq!(End::from_numbers(&numbers), None, "{place}: {number}");
+    }
+}
+
+/// The written-frames number and the intervals together.
+#[test]
+fn eleven_frames_are_no_end_and_ten_are_one() {
+    let mut numbers = Tried::any(active()).end.numbers();
+    for (frames, taken) in [(10, true), (11, false)] {
+        (numbers[21], numbers[28]) = (frames, frames);
+        assert_eq!(End::from_numbers(&numbers).is_some(), taken, "{frames}");
     }
 }

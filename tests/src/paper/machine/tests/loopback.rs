@@ -3,7 +3,7 @@
 use super::*;
 use Role::*;
 
-/// An end in SEND_ANY in a role, its second hardly used.
+/// An end in SEND_ANY in a role, with room for frames.
 fn in_role(settings: Settings, role: Role) -> Tried {
     let mut tried = Tried::any(settings);
     tried.end.role = role;
@@ -192,7 +192,7 @@ fn a_disable_ends_looping_always() {
 fn a_repeated_enable_owes_an_answer_but_no_revision() {
     let mut tried = Tried::any(active());
     tried.receive(&frame(DONE, ENABLE_BODY));
-    tried.fill_second();
+    tried.fill_stretch();
     tried.receive(&frame(DONE, ENABLE_BODY));
     assert_eq!((tried.end.owed, tried.end.revision), (true, 1));
     tried.receive(&frame(DONE, DISABLE_BODY));

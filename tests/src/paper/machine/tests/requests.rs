@@ -78,18 +78,18 @@ fn the_refusals_come_in_order() {
     let descriptors = [0x07_0002; 26]; // 96 octets, and 4 are 100
     let ask: Request = |end, out| end.variables(&[0x07_0002; 26], out);
     let mut end = Tried::any(small).end;
-    end.written = MOST_FRAMES;
+    end.intervals = only_now(MOST_FRAMES);
     assert_eq!(ask(&end, &mut []), Err(answer::FORBIDDEN));
     end.settings.configuration = 0x1D;
     assert_eq!(ask(&end, &mut []), Err(answer::SIZE));
     end.settings.size = 100;
     assert_eq!(ask(&end, &mut []), Err(answer::LIMIT));
-    end.written = 9;
+    end.intervals = only_now(9);
     let mut out = [0xEE; 95];
     assert_eq!(ask(&end, &mut out), Err(answer::OUTPUT));
     assert_eq!(out, [0xEE; 95]);
     let step = end.variables(&descriptors, &mut [0; 96]).expect("room");
-    assert_eq!((step.length, step.end.written), (96, 10));
+    assert_eq!((step.length, step.end.written()), (96, 10));
 }
 
 #[test]
@@ -120,7 +120,7 @@ fn requests_write_their_frames_and_not_what_is_owed() {
     let body = format!("fe a0b1c2 {}", "07".repeat(39));
     assert_eq!(tried.sent, frame_from(OWN, 0x0050, &body));
     assert!(tried.end.owed);
-    assert_eq!(tried.end.written, 5);
+    assert_eq!(tried.end.written(), 5);
 }
 
 /// B34: the first notification carries 0; 65,535 is followed by 0.

@@ -21,9 +21,9 @@ impl Tried {
         self.call(|end, out| end.respond(attributes, values, descriptors, out))
     }
 
-    /// The same in a second of its own.
+    /// The same in a stretch of its own.
     fn answers(&mut self, attributes: &[u32], values: &[u8], descriptors: &[u32]) {
-        self.end.written = 0;
+        self.end.intervals = only_now(0);
         let answer = self.respond(attributes, values, descriptors);
         assert_eq!(answer, answer::ACCEPTED);
     }
@@ -64,8 +64,14 @@ fn the_end_changes_by_its_count_of_frames_alone() {
     tried.end.role = Role::Looping;
     let before = tried.end;
     tried.respond(&HELD, &values(), &[0x07_0002]);
-    let written = before.written + 1;
-    assert_eq!(tried.end, End { written, ..before });
+    let intervals = only_now(before.written() + 1);
+    assert_eq!(
+        tried.end,
+        End {
+            intervals,
+            ..before
+        }
+    );
 }
 
 /// Size 64: a value of 38 octets just fits, and of 39 an empty body is left, also
@@ -171,20 +177,20 @@ fn own_bit_4_and_for_an_active_end_an_active_peer_are_needed() {
 fn the_refusals_come_in_order() {
     let mut end = Tried::up(passive()).end;
     end.settings.configuration = 0x0C;
-    end.written = MOST_FRAMES;
+    end.intervals = only_now(MOST_FRAMES);
     assert_eq!(respond(&end, &[], &mut []), Err(answer::VALUES));
     let asked = [0x07_0005; 30];
     assert_eq!(respond(&end, &asked, &mut []), Err(answer::NOT_SEND_ANY));
     let mut end = Tried::any(passive()).end;
     end.settings.configuration = 0x0C;
-    end.written = MOST_FRAMES;
+    end.intervals = only_now(MOST_FRAMES);
     assert_eq!(respond(&end, &asked, &mut []), Err(answer::FORBIDDEN));
     end.settings.configuration = 0x1C;
     assert_eq!(respond(&end, &asked, &mut []), Err(answer::LIMIT));
-    end.written = 9;
+    end.intervals = only_now(9);
     let mut out = [0xEE; 413]; // three of 132 octets, and 18, are 414
     assert_eq!(respond(&end, &asked, &mut out), Err(answer::OUTPUT));
     assert_eq!(out, [0xEE; 413]);
     let step = respond(&end, &asked, &mut [0; 414]).expect("room");
-    assert_eq!((step.length, step.end.written), (414, 10));
+    assert_eq!((step.length, step.end.written()), (414, 10));
 }

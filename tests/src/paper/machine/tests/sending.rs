@@ -1,41 +1,19 @@
-//! Ticks, the timer second, and what is owed.
+//! Ticks, the frame that every tenth makes due, and what is owed.
 
 use super::*;
 
 #[test]
-fn every_tenth_tick_from_fresh_closes_a_second() {
+fn every_tenth_tick_from_fresh_writes_a_frame() {
     let mut tried = Tried::fresh(active());
     tried.ticks(7);
     tried.report(Report::LinkUp);
-    assert_eq!(tried.end.written, 1);
+    assert_eq!(tried.end.written(), 1);
     for tick in 8..=40 {
         tried.tick();
-        let closed = tick % 10 == 0;
-        assert_eq!(tried.sent.is_empty(), !closed, "tick {tick}");
+        let due = tick % 10 == 0;
+        assert_eq!(tried.sent.is_empty(), !due, "tick {tick}");
         assert_eq!(usize::from(tried.end.ticks), tick % 10);
-        assert_eq!(tried.end.written, 1); // the second's own frame is in it
     }
-}
-
-/// B50: the eleventh frame of a request is 13; owed frames wait.
-#[test]
-fn ten_frames_a_second_and_no_more() {
-    let mut tried = Tried::any(active());
-    tried.fill_second();
-    assert_eq!(tried.organize(), answer::LIMIT);
-    assert_eq!(tried.start(), answer::LIMIT);
-    assert_eq!(tried.notify(), answer::LIMIT);
-    tried.report(Report::DyingGaspSet);
-    tried.assert_silent();
-    assert!(tried.end.owed);
-    tried.ticks(9);
-    tried.assert_silent();
-    assert_eq!(tried.end.written, 10);
-    tried.tick();
-    let remote = peer_tlv("00").replacen("01", "02", 1);
-    tried.assert_sent(0x0052, &format!("{ACTIVE_TLV} {remote}"));
-    assert_eq!((tried.end.written, tried.end.owed), (1, false)); // one frame only
-    assert_eq!(tried.organize(), answer::ACCEPTED);
 }
 
 /// A refused tick is no tick (B6).
@@ -47,7 +25,7 @@ fn a_refused_tick_does_not_count() {
     assert_eq!((tried.end.ticks, tried.end.lost_link), (9, 9));
 }
 
-/// B31: a call that changes the flags and closes the second writes one frame.
+/// B31: a call that changes the flags where a frame is due writes one frame.
 #[test]
 fn a_change_at_the_tenth_tick_is_one_frame() {
     let mut tried = Tried::any(active());
@@ -55,7 +33,7 @@ fn a_change_at_the_tenth_tick_is_one_frame() {
     tried.end.lost_link = 49;
     tried.tick();
     tried.assert_sent(0x0008, ACTIVE_TLV);
-    assert_eq!((tried.end.written, tried.end.owed), (1, false));
+    assert_eq!((tried.end.intervals[0], tried.end.owed), (1, false));
 }
 
 /// B26: the net change counts.
@@ -75,13 +53,13 @@ fn a_lost_link_in_active_send_local_owes_nothing() {
 #[test]
 fn an_owed_frame_outlives_its_reason() {
     let mut tried = Tried::any(active());
-    tried.fill_second();
+    tried.fill_stretch();
     tried.report(Report::CriticalEventSet);
     tried.report(Report::CriticalEventCleared);
     assert!(tried.end.owed);
-    tried.end.written = 3;
+    tried.end.intervals = only_now(3);
     tried.report(Report::LinkUp);
-    assert_eq!((tried.sent.len(), tried.end.written), (60, 4));
+    assert_eq!((tried.sent.len(), tried.end.written()), (60, 4));
     assert!(!tried.end.owed);
 }
 
@@ -89,14 +67,14 @@ fn an_owed_frame_outlives_its_reason() {
 #[test]
 fn an_owed_frame_goes_where_none_is_allowed() {
     let mut tried = Tried::any(passive());
-    tried.fill_second();
+    tried.fill_stretch();
     tried.report(Report::DyingGaspSet);
     assert!(tried.end.owed);
     tried.end.lost_link = 49;
     tried.tick();
     assert_eq!(tried.end.discovery, Discovery::PassiveWait);
     assert!(!tried.end.owed);
-    tried.end.written = 0;
+    tried.end.intervals = only_now(0);
     tried.report(Report::DyingGaspCleared);
     tried.assert_silent();
     let both_passive = frame(0, &format!("00 {PASSIVE_TLV}"));

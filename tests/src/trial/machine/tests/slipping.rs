@@ -1,5 +1,6 @@
 //! A machine with one slip.
 
+mod limit;
 mod responding;
 
 use crate::library::machine::{
@@ -7,8 +8,8 @@ use crate::library::machine::{
 };
 use crate::library::ByPaper;
 use crate::paper::machine::{
-    configuration, Breach, Discovery, End, Report, Role, Settings, COMPLETE, LOST_LINK,
-    MOST_FRAMES, SMALLEST_SIZE,
+    configuration, Breach, Discovery, End, Report, Role, Settings, COMPLETE, END_NUMBERS,
+    LOST_LINK, MOST_FRAMES, SMALLEST_SIZE,
 };
 use crate::paper::{answer, check, code, joined, read, Body, Heading, SHORTEST};
 use std::cell::Cell;
@@ -23,12 +24,12 @@ pub enum Slip {
     EnableObeyedBeforeSendAny,
     EnableObeyedAtEqualAddress,
     LoopsWithoutEnable,
+    NineFrames,
     ElevenFrames,
     RoleKeptOutsideSendAny,
     NoRevisionAtLinkDown,
     RequestSettlesWhatIsOwed,
     OwedWhereNotAllowed,
-    OwedBelongsToTheOldSecond,
     RepeatsShowEvents,
     RepeatStoresItsNumber,
     KeptFieldSentWithoutRecord,
@@ -62,10 +63,22 @@ pub enum Slip {
     TakesLoopingWithoutBit2,
     TakesAskingOfAPassiveEnd,
     TakesEventsWithoutRecord,
+    TakesTenTicks,
+    TakesElevenFrames,
+    TakesBit44,
+    IntervalsLittleEndian,
     ShortHeaderHasNoOctet,
     UnknownReportHasNoOctet,
     HeaderBeforeState,
     OutputBeforeReport,
+    TimerSecond,
+    TenIntervals,
+    TwelveIntervals,
+    RefusedTickOpensAnInterval,
+    LinkDownTicksOpenNone,
+    DueWrittenAsEleventh,
+    DueLostWhereFull,
+    TicksFrameInTheIntervalBefore,
     Width128As80,
     IndicationWithoutBit7,
     FcsNotCounted,
@@ -80,7 +93,7 @@ pub enum Slip {
 }
 
 impl Slip {
-    pub const ALL: [Slip; 62] = [
+    pub const ALL: [Slip; 74] = [
         Slip::LosesTheLinkAt49,
         Slip::LosesTheLinkAt51,
         Slip::RefusedFrameRestartsTheCount,
@@ -89,12 +102,12 @@ impl Slip {
         Slip::EnableObeyedBeforeSendAny,
         Slip::EnableObeyedAtEqualAddress,
         Slip::LoopsWithoutEnable,
+        Slip::NineFrames,
         Slip::ElevenFrames,
         Slip::RoleKeptOutsideSendAny,
         Slip::NoRevisionAtLinkDown,
         Slip::RequestSettlesWhatIsOwed,
         Slip::OwedWhereNotAllowed,
-        Slip::OwedBelongsToTheOldSecond,
         Slip::RepeatsShowEvents,
         Slip::RepeatStoresItsNumber,
         Slip::KeptFieldSentWithoutRecord,
@@ -128,10 +141,22 @@ impl Slip {
         Slip::TakesLoopingWithoutBit2,
         Slip::TakesAskingOfAPassiveEnd,
         Slip::TakesEventsWithoutRecord,
+        Slip::TakesTenTicks,
+        Slip::TakesElevenFrames,
+        Slip::TakesBit44,
+        Slip::IntervalsLittleEndian,
         Slip::ShortHeaderHasNoOctet,
         Slip::UnknownReportHasNoOctet,
         Slip::HeaderBeforeState,
         Slip::OutputBeforeReport,
+        Slip::TimerSecond,
+        Slip::TenIntervals,
+        Slip::TwelveIntervals,
+        Slip::RefusedTickOpensAnInterval,
+        Slip::LinkDownTicksOpenNone,
+        Slip::DueWrittenAsEleventh,
+        Slip::DueLostWhereFull,
+        Slip::TicksFrameInTheIntervalBefore,
         Slip::Width128As80,
         Slip::IndicationWithoutBit7,
         Slip::FcsNotCounted,
@@ -147,8 +172,18 @@ impl Slip {
 
     /// Those in what only a response does: the last ones.
     pub fn in_responses() -> impl Iterator<Item = Slip> {
-        let others = |slip: &Slip| *slip != Slip::Width128As80;
-        Slip::ALL.into_iter().skip_while(others)
+        Slip::ALL.into_iter().skip_while(Slip::is_before_responses)
+    }
+
+    /// Those in the limit over eleven intervals: the ones before them.
+    pub fn in_limit() -> impl Iterator<Item = Slip> {
+        let others = |slip: &Slip| *slip != Slip::TimerSecond;
+        let limit = Slip::ALL.into_iter().skip_while(others);
+        limit.take_while(Slip::is_before_responses)
+    }
+
+    fn is_before_responses(&self) -> bool {
+        *self != Slip::Width128As80
     }
 
     /// The rules that ends break which it makes or takes.
@@ -176,6 +211,8 @@ pub struct Slipping {
     slip: Slip,
     /// The lost-link count stood still once.
     late: Cell<bool>,
+    /// Frames of the interval that was the oldest before the last tick.
+    twelfth: Cell<u8>,
 }
 
 impl Machine for Slipping {
@@ -184,6 +221,7 @@ impl Machine for Slipping {
         if self.slip == Slip::TakesSize63 && settings.size == 63 {
             settings.size = 64;
         }
+        self.twelfth.set(0);
         ByPaper.fresh(&settings, state)
     }
 
@@ -193,7 +231,7 @@ impl Machine for Slipping {
             Slip::TakesLongerStates => &mut state[..length.min(STATE_OCTETS)],
             _ => state,
         };
-        let Some(before) = unpacked_with(state, self.slip.breaches()) else {
+        let Some(before) = self.unpacked(state) else {
             return self.bad_state(call, header, out);
         };
         let (mut end, mut given) = (before, call.clone());
@@ -207,6 +245,8 @@ impl Machine for Slipping {
         let Outcome { answer, length, .. } = Outcome::of(outcome);
         let outcome = if answer == answer::ACCEPTED {
             self.restore(&before, &end, call, &mut after, header);
+            limit::accepted(self.slip, &before, &end, call, &mut after);
+            self.note_tick(call, &before);
             self.accepted(&before, call, &mut after);
             self.stored(&after, call, length, header, out);
             outcome & !(0xFF << 40) | u64::from(after.role.octet()) << 40
@@ -214,15 +254,15 @@ impl Machine for Slipping {
             after = before;
             self.refused(&mut after, call, outcome, header, out)
         };
-        state.copy_from_slice(&packed(&after));
+        state.copy_from_slice(&limit::packed(self.slip, &after));
         outcome
     }
 
     fn show(&self, state: &[u8], numbers: &mut [u64]) -> u64 {
-        if self.slip == Slip::ShowsWithLessRoom && numbers.len() == 27 {
+        if self.slip == Slip::ShowsWithLessRoom && numbers.len() == END_NUMBERS - 1 {
             return answer::ACCEPTED.into();
         }
-        let outcome = shown(unpacked_with(state, self.slip.breaches()), numbers);
+        let outcome = shown(self.unpacked(state), numbers);
         if self.slip == Slip::ShowsNothingOwed && outcome == 0 {
             numbers[26] = 0;
         }
@@ -235,12 +275,22 @@ impl Slipping {
         Slipping {
             slip,
             late: Cell::new(false),
+            twelfth: Cell::new(0),
         }
+    }
+
+    /// The end in a state, if it is taken.
+    fn unpacked(&self, state: &[u8]) -> Option<End> {
+        let mut mended = state.to_vec();
+        if mended.len() == STATE_OCTETS {
+            limit::mend(self.slip, &mut mended);
+        }
+        unpacked_with(&mended, self.slip.breaches())
     }
 
     /// Alters what the paper's machine is given.
     fn prepare(&self, end: &mut End, call: &mut Call) {
-        let full = call.is_request() && end.written == MOST_FRAMES;
+        limit::prepare(self.slip, self.twelfth.get(), call, end);
         match (self.slip, call) {
             (Slip::LosesTheLinkAt49, Call::Tick) if end.lost_link == LOST_LINK - 2 => {
                 end.lost_link += 1;
@@ -259,7 +309,6 @@ impl Slipping {
                 let lower = end.settings.source.saturating_sub(1).to_be_bytes();
                 frame[6..12].copy_from_slice(&lower[2..]);
             }
-            (Slip::ElevenFrames, _) if full => end.written -= 1,
             (Slip::RepeatsShowEvents, Call::Receive(frame)) if is_notification(frame) => {
                 end.last_event = None;
             }
@@ -313,6 +362,12 @@ impl Slipping {
         }
     }
 
+    fn note_tick(&self, call: &Call, before: &End) {
+        if *call == Call::Tick {
+            self.twelfth.set(limit::oldest(before));
+        }
+    }
+
     /// Alters the end that an accepted call leaves.
     fn accepted(&self, before: &End, call: &Call, after: &mut End) {
         match call {
@@ -339,7 +394,6 @@ impl Slipping {
         let lost = after.lost_link < before.lost_link;
         let lost_alone = lost && before.discovery == Discovery::ActiveSendLocal;
         match self.slip {
-            Slip::OwedBelongsToTheOldSecond if after.ticks == 0 => after.written = 0,
             Slip::LostLinkOwesInActiveSendLocal if lost_alone => after.owed = true,
             Slip::LostLinkDropsWhatIsOwed if lost_alone => after.owed = false,
             _ => {}
@@ -421,7 +475,7 @@ impl Slipping {
         out: &[u8],
     ) -> u64 {
         let answer = Outcome::of(outcome).answer;
-        let unknown = answer == answer::VALUES;
+        let (unknown, full) = (answer == answer::VALUES, end.written() == MOST_FRAMES);
         match (self.slip, call) {
             (Slip::ShortHeaderHasNoOctet, Call::Receive(_)) if header.len() < RECEIVED => {
                 return answer.into();
@@ -431,9 +485,9 @@ impl Slipping {
                 return outcome - 1;
             }
             (Slip::RefusedFrameRestartsTheCount, Call::Receive(_)) => end.lost_link = 0,
-            (Slip::RefusedTickCounts, Call::Tick) => end.ticks = (end.ticks + 1) % 10,
             (Slip::RefusalStoresHeader, Call::Receive(_)) => header.fill(0),
             (Slip::RefusalHasNoOctet, _) => return answer.into(),
+            (_, Call::Tick) => self.refused_tick(end),
             (Slip::ReadsBeforeOutput, Call::Receive(frame)) if header.len() >= RECEIVED => {
                 let reading = check(frame).err().unwrap_or(answer);
                 return outcome - u64::from(answer) + u64::from(reading);
@@ -443,12 +497,18 @@ impl Slipping {
             {
                 return outcome + 1;
             }
-            (Slip::LimitBeforeSize, _) if answer == answer::SIZE && end.written == MOST_FRAMES => {
-                return outcome + 1;
-            }
+            (Slip::LimitBeforeSize, _) if answer == answer::SIZE && full => return outcome + 1,
             _ => {}
         }
         outcome
+    }
+
+    fn refused_tick(&self, end: &mut End) {
+        match self.slip {
+            Slip::RefusedTickCounts => end.ticks = (end.ticks + 1) % 10,
+            Slip::RefusedTickOpensAnInterval => end.intervals = limit::turned(&end.intervals),
+            _ => {}
+        }
     }
 }
 

@@ -1,6 +1,6 @@
-//! A call as a trial makes it.
+//! A call as it is made.
 
-use crate::library::machine::{Call, RECEIVED};
+use super::{Call, RECEIVED};
 use crate::paper::LONGEST;
 use std::fmt;
 
