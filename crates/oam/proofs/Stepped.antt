@@ -1,7 +1,7 @@
 -- What an entry that takes a call gives back: a number alone, or what the call comes to.
 use Prim.Native.Nat.{ℕ}
 use mathlib.Core.Path.{_≡_, refl, sym, ap, _∙_}
-use mathlib.Core.List.{List, [], _∷_, _++_}
+use mathlib.Core.List.{List, _++_}
 use native.Mathlib.Nat.{zero-add}
 use mathlib.Core.Bool.{false}
 use lib.Dec.{eqb}

@@ -5,8 +5,6 @@ use mathlib.Core.Path.{_≡_}
 use mathlib.Core.List.{List, _∷_}
 use mathlib.Core.Bool.{and-true}
 use native.Mathlib.Omega.{arith}
-use Rattle.link_limit.specs.Limit.{writtenFrames}
-use Rattle.link_limit.specs.declared.Meter.{Meter}
 use Rattle.link_end.specs.declared.End.{End}
 use Rattle.theorems_reach.specs.Machine.{Call, outcomeOf}
 use Rattle.theorems_reach.specs.Runs.{isTick, entryOf}
@@ -14,7 +12,7 @@ use Rattle.theorems_reach.proofs.Keeping.{InputFits}
 use Rattle.theorems_reach.proofs.Standing.{Ranged}
 use Rattle.theorems_reach.proofs.Framing.{ranged-writes}
 use Rattle.theorems_reach.specs.Intervals.{Entry, framesBack, framesFrom}
-use Rattle.theorems_reach.proofs.Counting.{Agrees, keeps-agrees}
+use Rattle.theorems_reach.proofs.Counting.{Agrees, agrees-written, keeps-agrees}
 use Rattle.theorems_reach.proofs.Stretches.{keeps-stretches}
 use Rattle.theorems_pair.specs.System.{Side, Moment, momentOf}
 use Rattle.theorems_pair.specs.Safe.{someOctets, historyOf}
@@ -27,11 +25,6 @@ agrees-after s c e past o r z a =
     let entry : entryOf c e ≡ record { tick = isTick (c .input); frame = someOctets (momentOf s c e .wrote) } =
     rw (z, and-true (isTick (c .input)), counted c e (ranged-writes c e o r)) in
     rw (same-self s, ← entry) (keeps-agrees c e o r (historyOf s past) a)
-
--- the written-frames number of a meter that agrees with a history
-pub agrees-written : (m : Meter) (xs : List Entry) → Agrees m xs → writtenFrames m ≡ framesBack 10 xs
-unfolding writtenFrames
-agrees-written m xs a = a .frames 10 (omega arith)
 
 pub stretches-after : (s : Side) (c : Call) (e : End) (past : List Moment) (after : End) → Ranged after
     → Agrees (after .meter) (historyOf s (momentOf s c e ∷ past))

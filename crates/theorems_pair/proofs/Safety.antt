@@ -15,14 +15,13 @@ use Rattle.link_end.specs.Parts.{freshEnd}
 use Rattle.theorems_reach.specs.Machine.{tick, report, receive, request, Call, outcomeOf}
 use Rattle.theorems_reach.specs.Premises.{Accepted}
 use Rattle.theorems_reach.proofs.Standing.{fresh-is}
-use Rattle.theorems_reach.proofs.Counting.{fresh-agrees}
+use Rattle.theorems_reach.proofs.Counting.{agrees-written, fresh-agrees}
 use Rattle.theorems_pair.specs.Lists.{Some, here, there, none-left, also}
 use Rattle.theorems_pair.specs.System.{Side, near, far, other, same, Moment, momentOf, World, put, called, Act, ticks, reports, requests, arrives, Happening, frameAt, delivered, happens, run, begin}
 use Rattle.theorems_pair.specs.Safe.{Loops, Safe, someOctets, inStretch}
 use Rattle.theorems_reach.proofs.Beginning.{not-looping}
 use Rattle.theorems_reach.proofs.InSendAny.{looping-any, any-takes}
 use Rattle.theorems_pair.proofs.Invariant.{Keeps, Invariant, apart, both, put-here, put-there, honest-grows, keeps-beside}
-use Rattle.theorems_pair.proofs.Limit.{agrees-written}
 use Rattle.theorems_pair.proofs.Steps.{Wrote, Delivered, keeps-after, honest-after}
 
 -- ---- a call

@@ -167,6 +167,11 @@ module _ (m : Meter) (xs : List Entry) (a : Agrees m xs) where
       ap (λ (n : ℕ). n + count frame) (turned-newest m (suc k) h ∙ a .frames k (omega arith)) ∙ sym (back-tick k frame xs)
   may-turn-frames false frame k h = ap (λ (n : ℕ). n + count frame) (a .frames k h) ∙ sym (back-other k frame xs)
 
+-- the written-frames number is the count over the history
+pub agrees-written : (m : Meter) (xs : List Entry) → Agrees m xs → writtenFrames m ≡ framesBack 10 xs
+unfolding writtenFrames
+agrees-written m xs a = a .frames 10 (omega arith)
+
 -- after a call
 pub keeps-agrees : (c : Call) (e : End) → InputFits (c .input) → Ranged e → (xs : List Entry) → Agrees (e .meter) xs
     → Agrees (outcomeOf c e .end .meter) (entryOf c e ∷ xs)
@@ -203,10 +208,8 @@ pub run-closes : (s : Settings) → Accepted s → (cs : List Call) → AllOfOct
     → closes (after s cs .meter) ≡ closedBy (record { tick = true; frame = frame }) (history s cs)
 run-closes s a cs o frame = closes-tenth (after s cs .meter) (ticksIn (history s cs)) (run-agrees s a cs o .ticks)
 
--- the written-frames number is the count over the history
 pub run-counts : (s : Settings) → Accepted s → (cs : List Call) → AllOfOctets cs → writtenFrames (after s cs .meter) ≡ framesBack 10 (history s cs)
-unfolding writtenFrames
-run-counts s a cs o = run-agrees s a cs o .frames 10 (omega arith)
+run-counts s a cs o = agrees-written (after s cs .meter) (history s cs) (run-agrees s a cs o)
 
 -- "ten frames over any eleven successive" intervals, the latest
 pub run-limit : (s : Settings) → Accepted s → (cs : List Call) → AllOfOctets cs → framesBack 10 (history s cs) ≤ 10

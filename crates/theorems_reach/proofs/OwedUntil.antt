@@ -1,9 +1,9 @@
 -- How long what is owed waits: over ten accepted ticks at most, so that the eleventh writes it at the latest (or it is allowed no
 -- more). While it waits behind the limit no other frame is written.
-use Prim.Native.Nat.{ℕ, zero, suc, _+_, _-_, _≤_}
-use mathlib.Core.Path.{_≡_, refl, sym, ap, _∙_}
+use Prim.Native.Nat.{ℕ, zero, suc, _+_, _≤_}
+use mathlib.Core.Path.{_≡_, sym, ap, _∙_}
 use mathlib.Core.List.{List, [], _∷_, _++_}
-use mathlib.Core.Bool.{Bool, true, false}
+use mathlib.Core.Bool.{true, false}
 use native.Mathlib.Omega.{arith}
 use borrow.Author.Tests.{leb-true, leb-false, eqb-true}
 use lib.Dec.{leb}
@@ -13,7 +13,7 @@ use Rattle.link_peer.specs.declared.Settings.{Settings}
 use Rattle.link_end.specs.declared.End.{End}
 use Rattle.link.specs.declared.Outcome.{Outcome}
 use Rattle.link_end.specs.Sending.{sends, sent}
-use Rattle.theorems_reach.specs.Machine.{Input, Call, outcomeOf}
+use Rattle.theorems_reach.specs.Machine.{Call, outcomeOf}
 use Rattle.theorems_reach.specs.Runs.{after, OwesAfterEach, wrote, isTick, acceptedTick, entryOf, history}
 use Rattle.theorems_reach.specs.Intervals.{Entry, ticksIn, framesBack}
 use Rattle.theorems_reach.specs.Premises.{Accepted, AllOfOctets}
