@@ -4,7 +4,9 @@
 use super::frames::{frame, EVENTS};
 use super::meter::Meter;
 use crate::commands::Outcome;
-use oam_tests::library::machine::{packed, unpacked, Call, Machine, RECEIVED, STATE_OCTETS};
+use oam_tests::library::machine::{
+    packed, unpacked, Call, Machine, Response, RECEIVED, STATE_OCTETS,
+};
 use oam_tests::library::{Archive, ByPaper};
 use oam_tests::paper::machine::{Discovery, End, Report, Role, Settings, END_NUMBERS, SECOND};
 use oam_tests::paper::{answer, code, BODY, LONGEST, MOST_ASKED, MOST_ATTRIBUTES};
@@ -74,11 +76,11 @@ fn measure_requests(meter: &mut impl Meter, any: &Stand) -> Outcome {
 /// A response of an end that holds counters of eight octets.
 fn respond(held: impl Iterator<Item = u32>, asked: impl Iterator<Item = u32>) -> Call {
     let attributes: Vec<u32> = held.flat_map(|counter| [counter, 8]).collect();
-    Call::Respond {
+    Call::Respond(Response {
         values: vec![0x5A; 8 * attributes.len() / 2],
         attributes,
         descriptors: asked.collect(),
-    }
+    })
 }
 
 /// Information whose second TLV has no room for its fields.

@@ -148,13 +148,7 @@ impl Depths {
         let (mut header, mut out) = ([0; RECEIVED], [0; LONGEST]);
         let out = &mut out[..room];
         match call {
-            Call::Respond {
-                attributes,
-                values,
-                descriptors,
-            } => self.note(call.name(), || {
-                Archive.respond(attributes, values, descriptors, state, out)
-            }),
+            Call::Respond(given) => self.note(call.name(), || Archive.respond(given, state, out)),
             _ => self.note(call.name(), || Archive.call(call, &mut header, state, out)),
         }
     }

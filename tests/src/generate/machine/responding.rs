@@ -4,7 +4,7 @@
 
 use super::directed::{reported, with_room, Directed};
 use super::wraps::{received, stretch_of_ticks, COMPLETE};
-use crate::library::machine::Call;
+use crate::library::machine::{Call, Response};
 use crate::paper::machine::{configuration, Report, Settings, FCS, MOST_FRAMES};
 use crate::paper::{Body, Information, Part, BODY, MOST_ASKED, MOST_ATTRIBUTES};
 
@@ -108,11 +108,11 @@ fn table(widths: &[usize]) -> (Vec<u32>, Vec<u8>) {
 
 fn respond(widths: &[usize], descriptors: &[u32]) -> Call {
     let (attributes, values) = table(widths);
-    Call::Respond {
+    Call::Respond(Response {
         attributes,
         values,
         descriptors: descriptors.to_vec(),
-    }
+    })
 }
 
 /// Values whose containers have so many octets in all, 5 or more.
@@ -207,11 +207,11 @@ fn held_twice() -> Vec<Call> {
     let twice = |(count, first, second): (usize, usize, usize)| {
         let (mut attributes, values) = table(&vec![2; count]);
         attributes[2 * second] = name(first);
-        Call::Respond {
+        Call::Respond(Response {
             attributes,
             values,
             descriptors: vec![name(first), UNKNOWN],
-        }
+        })
     };
     ends.into_iter().chain(pairs).map(twice).collect()
 }
@@ -223,11 +223,11 @@ fn values_beside() -> Vec<Call> {
     let lent = |numbers: usize, octets: usize| {
         let numbers = attributes.iter().cycle().take(numbers);
         let octets = values.iter().cycle().take(octets);
-        Call::Respond {
+        Call::Respond(Response {
             attributes: numbers.copied().collect(),
             values: octets.copied().collect(),
             descriptors: vec![name(0), name(1)],
-        }
+        })
     };
     let (count, sum) = (attributes.len(), values.len());
     [

@@ -1,6 +1,7 @@
 //! What can be wrong with the values of a response. Told of the lent numbers here
 //! apart from the paper's machine, so that a slip in one of the two shows.
 
+use crate::library::machine::Response;
 use crate::paper::{MOST_ASKED, MOST_ATTRIBUTES};
 use std::collections::BTreeSet;
 
@@ -41,7 +42,12 @@ impl ResponseFault {
 
     /// All that is wrong. A number that has no other one to make it an attribute
     /// is none.
-    pub fn all_of(attributes: &[u32], values: &[u8], descriptors: &[u32]) -> Vec<Self> {
+    pub fn all_of(given: &Response) -> Vec<Self> {
+        let Response {
+            attributes,
+            values,
+            descriptors,
+        } = given;
         let names = attributes.chunks_exact(2).map(|pair| pair[0]);
         let widths = attributes.chunks_exact(2).map(|pair| pair[1]);
         let (count, octets) = (names.len(), values.len() as u64);

@@ -4,7 +4,7 @@
 use super::response_faults::ResponseFault as Fault;
 use crate::generate::beyond::beyond;
 use crate::generate::messages::descriptor;
-use crate::library::machine::Call;
+use crate::library::machine::{Call, Response};
 use crate::paper::machine::FCS;
 use crate::paper::{BODY, MOST_ASKED, MOST_ATTRIBUTES};
 use crate::random::Random;
@@ -43,11 +43,11 @@ pub fn any_respond(random: &mut Random, size: usize) -> Call {
     for fault in faults {
         spoil_numbers(random, fault, &mut numbers, &mut values);
     }
-    Call::Respond {
+    Call::Respond(Response {
         attributes: numbers,
         values,
         descriptors,
-    }
+    })
 }
 
 /// An attribute whose width need not be that of its value.

@@ -72,15 +72,10 @@ fn responses_are_refused_for_each_reason_alone() {
 }
 
 fn faults_of(call: &Call) -> Vec<ResponseFault> {
-    let Call::Respond {
-        attributes,
-        values,
-        descriptors,
-    } = call
-    else {
-        panic!("no response: {call}");
-    };
-    ResponseFault::all_of(attributes, values, descriptors)
+    match call {
+        Call::Respond(given) => ResponseFault::all_of(given),
+        other => panic!("no response: {other}"),
+    }
 }
 
 /// An end in SEND_ANY that may respond.

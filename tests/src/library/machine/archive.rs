@@ -1,6 +1,6 @@
 //! The archive's link machine, called as a C program would.
 
-use super::{Call, Machine};
+use super::{Call, Machine, Response};
 use crate::library::Archive;
 use crate::paper::machine::Settings;
 
@@ -144,7 +144,7 @@ impl Machine for Archive {
                 let (octets, count) = (octets.as_ptr(), octets.len());
                 oam_organization(*oui, octets, count, state, length, out, room)
             },
-            Call::Respond { .. } => respond_apart(call, kept, output),
+            Call::Respond(given) => respond_apart(given, kept, output),
         }
     }
 
@@ -158,22 +158,15 @@ impl Machine for Archive {
 impl Archive {
     /// A response. It has a function of its own for those who measure the stack.
     #[inline(always)]
-    pub fn respond(
-        &self,
-        attributes: &[u32],
-        values: &[u8],
-        descriptors: &[u32],
-        state: &mut [u8],
-        out: &mut [u8],
-    ) -> u64 {
+    pub fn respond(&self, given: &Response, state: &mut [u8], out: &mut [u8]) -> u64 {
         unsafe {
             oam_respond(
-                attributes.as_ptr(),
-                attributes.len(),
-                values.as_ptr(),
-                values.len(),
-                descriptors.as_ptr(),
-                descriptors.len(),
+                given.attributes.as_ptr(),
+                given.attributes.len(),
+                given.values.as_ptr(),
+                given.values.len(),
+                given.descriptors.as_ptr(),
+                given.descriptors.len(),
                 state.as_mut_ptr(),
                 state.len(),
                 out.as_mut_ptr(),
@@ -186,13 +179,6 @@ impl Archive {
 /// Not inlined as the others are: four of its arguments pass on the stack, and would
 /// stand in the frame of whoever calls any entry.
 #[inline(never)]
-fn respond_apart(call: &Call, state: &mut [u8], out: &mut [u8]) -> u64 {
-    match call {
-        Call::Respond {
-            attributes,
-            values,
-            descriptors,
-        } => Archive.respond(attributes, values, descriptors, state, out),
-        other => panic!("no response: {other}"),
-    }
+fn respond_apart(given: &Response, state: &mut [u8], out: &mut [u8]) -> u64 {
+    Archive.respond(given, state, out)
 }

@@ -22,14 +22,18 @@ pub enum Call {
         oui: u32,
         octets: Vec<u8>,
     },
-    Respond {
-        /// Two numbers an attribute: descriptor and width.
-        attributes: Vec<u32>,
-        /// The values one behind the other.
-        values: Vec<u8>,
-        /// One number a descriptor that is asked for.
-        descriptors: Vec<u32>,
-    },
+    Respond(Response),
+}
+
+/// What a response is made of.
+#[derive(Clone, Debug, PartialEq, Eq)]
+pub struct Response {
+    /// Two numbers an attribute: descriptor and width.
+    pub attributes: Vec<u32>,
+    /// The values one behind the other.
+    pub values: Vec<u8>,
+    /// One number a descriptor that is asked for.
+    pub descriptors: Vec<u32>,
 }
 
 impl Call {
@@ -56,7 +60,7 @@ impl Call {
             Call::Request(_) => 5,
             Call::Notify(_) => 6,
             Call::Organization { .. } => 7,
-            Call::Respond { .. } => 8,
+            Call::Respond(_) => 8,
         };
         Call::NAMES[place]
     }
@@ -80,11 +84,11 @@ impl Call {
             Call::Request(descriptors) => end.variables(descriptors, out),
             Call::Notify(events) => end.notify(events, out),
             Call::Organization { oui, octets } => end.organization(*oui, octets, out),
-            Call::Respond {
+            Call::Respond(Response {
                 attributes,
                 values,
                 descriptors,
-            } => end.respond(attributes, values, descriptors, out),
+            }) => end.respond(attributes, values, descriptors, out),
         }
     }
 }
@@ -106,11 +110,11 @@ impl fmt::Display for Call {
             Call::Organization { oui, octets } => {
                 write!(text, " OUI {oui:06x}, {} octets", octets.len())
             }
-            Call::Respond {
+            Call::Respond(Response {
                 attributes,
                 values,
                 descriptors,
-            } => {
+            }) => {
                 let (count, octets) = (descriptors.len(), values.len());
                 write!(
                     text,

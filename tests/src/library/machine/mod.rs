@@ -9,7 +9,7 @@ mod call;
 mod turn;
 
 pub use by_paper::{called, packed, shown, unpacked, unpacked_with};
-pub use call::Call;
+pub use call::{Call, Response};
 pub use turn::Turn;
 
 use crate::paper::machine::Settings;

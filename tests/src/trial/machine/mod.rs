@@ -146,7 +146,7 @@ impl<'a> Trial<'a> {
         let bout = bout.ok_or("the settings of a directed script are refused")?;
         let mut played = Played::new(self.library, *settings, bout);
         for turn in turns {
-            if let Call::Respond { .. } = turn.call {
+            if let Call::Respond(_) = turn.call {
                 self.without_room(&mut played, &turn.call)?;
             }
             self.turn(&mut played, turn)?;

@@ -3,7 +3,7 @@
 //! million calls, and grow with the calls.
 
 use crate::generate::machine::ResponseFault;
-use crate::library::machine::{Call, Outcome};
+use crate::library::machine::{Call, Outcome, Response};
 use crate::paper::machine::{End, FCS};
 use crate::paper::{answer, BODY, MOST_ASKED, MOST_ATTRIBUTES};
 use crate::trial::report::{Report, Tally};
@@ -106,17 +106,12 @@ impl Responding {
 
     /// Notes a call; other calls are no responses.
     pub fn note(&mut self, before: &End, call: &Call, outcome: &Outcome) {
-        let Call::Respond {
-            attributes,
-            values,
-            descriptors,
-        } = call
-        else {
+        let Call::Respond(given) = call else {
             return;
         };
         self.count.count(());
         self.answers.count(outcome.answer);
-        let faults = ResponseFault::all_of(attributes, values, descriptors);
+        let faults = ResponseFault::all_of(given);
         if faults.is_empty() == (outcome.answer == answer::VALUES) {
             let told = || format!("{THIS_PACKAGE}: {call} is {faults:?}, {outcome:?}");
             self.misjudged.get_or_insert_with(told);
@@ -125,7 +120,7 @@ impl Responding {
             self.reasons.count(fault);
         }
         if faults.is_empty() {
-            let asked = Asked::new(before, attributes, descriptors);
+            let asked = Asked::new(before, given);
             self.note_sorts(&asked, outcome.answer);
         }
     }
@@ -186,7 +181,8 @@ struct Asked<'a> {
 }
 
 impl<'a> Asked<'a> {
-    fn new(end: &'a End, attributes: &'a [u32], descriptors: &'a [u32]) -> Self {
+    fn new(end: &'a End, given: &'a Response) -> Self {
+        let (attributes, descriptors) = (&given.attributes[..], &given.descriptors[..]);
         let width = |descriptor: &u32| {
             let mut held = attributes.chunks(2);
             held.find(|held| held[0] == *descriptor)

@@ -4,7 +4,7 @@
 use super::damaged::{refuses, shown};
 use super::played::Played;
 use crate::generate::any_frame;
-use crate::library::machine::{packed, unpacked_with, Call, Machine, Turn, RECEIVED};
+use crate::library::machine::{packed, unpacked_with, Call, Machine, Response, Turn, RECEIVED};
 use crate::paper::machine::{configuration, Breach, End, Report as Reported, Role, COMPLETE};
 use crate::paper::{Information, LONGEST, NUMBERS};
 use crate::random::Random;
@@ -148,10 +148,10 @@ fn calls(random: &mut Random) -> [Call; 10] {
             oui: 1,
             octets: vec![0; 39],
         },
-        Call::Respond {
+        Call::Respond(Response {
             attributes: vec![0x07_0001, 2],
             values: vec![0; 2],
             descriptors: vec![0x07_0001],
-        },
+        }),
     ]
 }

@@ -200,7 +200,7 @@ impl<'a> Side<'a> {
             (Sight::FrameWritten, wrote),
             (
                 Sight::ResponseWritten,
-                wrote && matches!(call, Call::Respond { .. }),
+                wrote && matches!(call, Call::Respond(_)),
             ),
             (Sight::FrameAccepted, accepted),
             (Sight::StretchFull, wrote && full),

@@ -315,7 +315,7 @@ impl Slipping {
             (Slip::PassiveEndAsks, Call::Start) => {
                 end.settings.configuration |= configuration::ACTIVE;
             }
-            (slip, call @ Call::Respond { .. }) => {
+            (slip, call @ Call::Respond(_)) => {
                 self.prepare_peer(end);
                 responding::prepare(slip, end, call);
             }
@@ -460,7 +460,7 @@ impl Slipping {
                 out[39] = after.peer.map_or(0, |peer| peer.state);
             }
             (Slip::ClearsOutput, _) => out[length..].fill(0),
-            (slip, Call::Respond { .. }) => responding::stored(slip, &mut out[..length]),
+            (slip, Call::Respond(_)) => responding::stored(slip, &mut out[..length]),
             _ => {}
         }
     }

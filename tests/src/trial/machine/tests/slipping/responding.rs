@@ -11,14 +11,11 @@ const GREATEST_SIZE: u16 = 0x07FF;
 /// Alters what the paper's machine is given for a response.
 pub fn prepare(slip: Slip, end: &mut End, call: &mut Call) {
     let left_off = octets_left_off(end, call);
-    let Call::Respond {
-        attributes,
-        values,
-        descriptors,
-    } = call
-    else {
+    let Call::Respond(given) = call else {
         return;
     };
+    let (attributes, values) = (&mut given.attributes, &mut given.values);
+    let descriptors = &mut given.descriptors;
     let widths = attributes.chunks_exact(2).map(|pair| pair[1] as usize);
     let sum: usize = widths.sum();
     match slip {
@@ -62,7 +59,7 @@ fn count_no_fcs(end: &mut End) {
 /// How many descriptors are answered and the octets of room that are left, where the
 /// paper's machine grants the response and leaves some off.
 fn octets_left_off(end: &End, call: &Call) -> Option<(usize, usize)> {
-    let Call::Respond { descriptors, .. } = call else {
+    let Call::Respond(given) = call else {
         return None;
     };
     let mut out = [0; LONGEST];
@@ -71,7 +68,7 @@ fn octets_left_off(end: &End, call: &Call) -> Option<(usize, usize)> {
     let octets = written.last().map_or(BODY, |last| last.next);
     let size = end.settings.size.min(end.peer?.maximum_size());
     let left = usize::from(size) - FCS - octets;
-    (written.len() < descriptors.len()).then_some((written.len(), left))
+    (written.len() < given.descriptors.len()).then_some((written.len(), left))
 }
 
 /// Leaves off only those that do not fit.
