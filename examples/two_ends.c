@@ -1,9 +1,9 @@
 /*
  * Two ends of one link in one process. The office end is active, orders a loopback test and asks for
- * counters; the box at the far end is passive, loops and answers. Each calls the machine as firmware
- * does. In the place of the fibre stands a queue for each direction, which carries one frame a tick.
- * Printed is who sends what and where the ends stand. The program returns 1 where something does not go
- * as it must.
+ * counters; the box at the far end is passive, loops, tells of bad frames and answers. Each calls the
+ * machine as firmware does. In the place of the fibre stands a queue for each direction, which carries
+ * one frame a tick. Printed is who sends what and where the ends stand. The program returns 1 where
+ * something does not go as it must.
  */
 #include "oam.h"
 
@@ -32,6 +32,7 @@ struct end {
     uint8_t out[OAM_LONGEST_FRAME];
     uint8_t parser; /* what the MAC was last told */
     bool multiplexer_discards;
+    uint64_t bad_frames;       /* that the MAC has counted since the last tick */
     struct frame queue[QUEUE]; /* on the way from this end */
     size_t first, count;
     size_t events_heard;
@@ -175,11 +176,42 @@ static bool is(const struct end *e, uint64_t role)
     return number_of(e, OAM_NUMBER_DISCOVERY) == OAM_DISCOVERY_SEND_ANY && number_of(e, OAM_NUMBER_ROLE) == role;
 }
 
+/* Tells the peer of events and prints their lines of the sent-event log. */
+static void notify(struct end *e, const uint64_t *events, size_t count)
+{
+    uint64_t number = number_of(e, OAM_NUMBER_NEXT_EVENT);
+    finish(e, oam_notify(events, count * OAM_EVENT_NUMBERS, STATE_AND_OUT(e)));
+    for (size_t i = 0; i < count; i += 1) {
+        uint8_t line[OAM_LONGEST_LINE];
+        uint64_t outcome =
+            oam_log_write(number, i + 1, &events[i * OAM_EVENT_NUMBERS], OAM_EVENT_NUMBERS, line, sizeof line);
+        must(oam_answer(outcome) == OAM_ACCEPTED, "the log line is written");
+        printf("  %-6s logs %.*s", e->name, (int)oam_length(outcome), (const char *)line);
+    }
+}
+
+/* One tick of an end. It takes what the MAC has counted, and the peer is told of the events that arise. */
+static void tick(struct end *e)
+{
+    uint64_t events[OAM_ARISEN_NUMBERS];
+    uint64_t outcome = oam_tick(e->bad_frames, events, OAM_ARISEN_NUMBERS, STATE_AND_OUT(e));
+    finish(e, outcome);
+    e->bad_frames = 0;
+    for (size_t i = 0; i < oam_arisen(outcome); i += 1) {
+        const uint64_t *event = &events[i * OAM_EVENT_NUMBERS];
+        printf("  %-6s has an event of type %" PRIu64 ": %" PRIu64 " errors in %" PRIu64 " ticks\n", e->name,
+               event[OAM_EVENT_TYPE], event[OAM_EVENT_ERRORS], event[OAM_EVENT_WINDOW]);
+    }
+    if (oam_arisen(outcome) > 0) {
+        notify(e, events, oam_arisen(outcome));
+    }
+}
+
 /* One tick of both ends, and what reaches them after it. */
 static void tick_both(struct end *office, struct end *box)
 {
-    finish(office, oam_tick(STATE_AND_OUT(office)));
-    finish(box, oam_tick(STATE_AND_OUT(box)));
+    tick(office);
+    tick(box);
     carry(office, box);
     carry(box, office);
 }
@@ -198,28 +230,16 @@ static void tick_until(struct end *office, uint64_t office_role, struct end *box
     print_end(box);
 }
 
-/* Tells the peer of one event and prints its line of the sent-event log. */
-static void notify(struct end *e)
-{
-    const uint64_t event[OAM_EVENT_NUMBERS] = {OAM_TYPE_FRAME, 120, 10, 1, 3, 3, 1};
-    uint64_t number = number_of(e, OAM_NUMBER_NEXT_EVENT);
-    uint8_t line[OAM_LONGEST_LINE];
-    uint64_t outcome = oam_notify(event, OAM_EVENT_NUMBERS, STATE_AND_OUT(e));
-    finish(e, outcome);
-    outcome = oam_log_write(number, 1, event, OAM_EVENT_NUMBERS, line, sizeof line);
-    must(oam_answer(outcome) == OAM_ACCEPTED, "the log line is written");
-    printf("  %-6s logs %.*s", e->name, (int)oam_length(outcome), (const char *)line);
-}
-
 int main(void)
 {
     static struct end office = {.name = "office"}, box = {.name = "box"};
     const uint8_t both_can = OAM_CONFIGURATION_LOOPBACK | OAM_CONFIGURATION_LINK_EVENTS;
+    /* An event for one bad frame in a second, and for one errored second in a minute: the standard's defaults. */
     must(oam_fresh(both_can | OAM_CONFIGURATION_ACTIVE, 1518, 0x00CAFE, 1, 0x020000000001,
-                   OAM_CONFIGURATION_LOOPBACK, office.state, sizeof office.state) == OAM_ACCEPTED,
+                   OAM_CONFIGURATION_LOOPBACK, 10, 1, 600, 1, office.state, sizeof office.state) == OAM_ACCEPTED,
          "the office's settings are in range");
-    must(oam_fresh(both_can | OAM_CONFIGURATION_VARIABLE_RETRIEVAL, 1518, 0x00CAFE, 2, 0x020000000002, 0, box.state,
-                   sizeof box.state) == OAM_ACCEPTED,
+    must(oam_fresh(both_can | OAM_CONFIGURATION_VARIABLE_RETRIEVAL, 1518, 0x00CAFE, 2, 0x020000000002, 0, 10, 1, 600,
+                   1, box.state, sizeof box.state) == OAM_ACCEPTED,
          "the box's settings are in range");
 
     printf("the link comes up\n");
@@ -242,10 +262,14 @@ int main(void)
     tick_until(&office, OAM_ROLE_IDLE, &box, OAM_ROLE_IDLE);
     must(box.parser == OAM_PARSER_FORWARD && !box.multiplexer_discards, "the box serves its subscriber again");
 
-    printf("the box notices bad frames\n");
-    notify(&box);
-    tick_until(&office, OAM_ROLE_IDLE, &box, OAM_ROLE_IDLE);
+    printf("the box receives bad frames\n");
+    box.bad_frames = 3;
+    for (unsigned ticks = 0; office.events_heard == 0; ticks += 1) {
+        must(ticks < MOST_TICKS, "the office hears of the event");
+        tick_both(&office, &box);
+    }
     must(office.events_heard == 1, "the office hears of the event once");
+    must(number_of(&box, OAM_NUMBER_FRAME_ERROR_TOTAL) == 3, "the box has counted every bad frame");
 
     printf("the desk reads counters\n");
     const uint32_t asked[] = {0x070002, 0x070008, 0x070005};

@@ -20,7 +20,7 @@
  * The version of what stands here and of a state's octets: it grows with every change of either. A state is
  * good for the build that made it. After an update make a fresh end (oam_fresh) and report the link.
  */
-#define OAM_VERSION 3
+#define OAM_VERSION 4
 
 #include <stddef.h>
 #include <stdint.h>
@@ -57,7 +57,7 @@ enum {
 };
 
 /* Lengths in octets. */
-#define OAM_STATE_OCTETS 53    /* the state of an end */
+#define OAM_STATE_OCTETS 96    /* the state of an end */
 #define OAM_LEAST_OUT 60       /* the shortest output for a tick, a report and a received frame */
 #define OAM_SHORTEST_FRAME 60
 #define OAM_LONGEST_FRAME 1514 /* an output of this many octets is never too short for a frame */
@@ -72,11 +72,12 @@ enum {
 /* Counts of numbers in a slice. */
 #define OAM_INFORMATION_NUMBERS 7 /* an Information TLV */
 #define OAM_EVENT_NUMBERS 7       /* an event */
+#define OAM_ARISEN_NUMBERS 14     /* the two events that may arise with one tick */
 #define OAM_ATTRIBUTE_NUMBERS 2   /* an attribute: its descriptor and its width */
 #define OAM_HEADER_NUMBERS 4      /* what oam_read, oam_read_all and oam_receive store of a header */
 #define OAM_ROW_NUMBERS 9         /* a row, which oam_read_all stores of each part */
 #define OAM_LINE_NUMBERS 9        /* what oam_log_read stores */
-#define OAM_SHOWN_NUMBERS 29      /* what oam_show stores */
+#define OAM_SHOWN_NUMBERS 43      /* what oam_show stores */
 
 /* The most of a thing in one frame or one call. */
 #define OAM_MOST_EVENTS 4
@@ -85,6 +86,16 @@ enum {
 #define OAM_MOST_ATTRIBUTES 64
 #define OAM_LEAST_ORGANIZATION_OCTETS 39
 #define OAM_MOST_ORGANIZATION_OCTETS 1493
+
+/* The bounds of the settings for the events of an end's own: windows in ticks, thresholds in errors. */
+#define OAM_LEAST_FRAME_WINDOW 10
+#define OAM_MOST_FRAME_WINDOW 600
+#define OAM_LEAST_FRAME_THRESHOLD 1
+#define OAM_MOST_FRAME_THRESHOLD 0xFFFFFFFF
+#define OAM_LEAST_SECONDS_WINDOW 100 /* and a multiple of 10 */
+#define OAM_MOST_SECONDS_WINDOW 9000
+#define OAM_LEAST_SECONDS_THRESHOLD 1
+#define OAM_MOST_SECONDS_THRESHOLD 0xFFFF
 
 /* The code of a frame. */
 enum {
@@ -213,7 +224,7 @@ enum {
 
 /* The places of the numbers that oam_show stores. What is held or set is 1, else 0. */
 enum {
-    OAM_NUMBER_CONFIGURATION = 0, /* the settings, 0 to 5 */
+    OAM_NUMBER_CONFIGURATION = 0, /* the settings, 0 to 5 and 29 to 32 */
     OAM_NUMBER_SIZE = 1,
     OAM_NUMBER_OUI = 2,
     OAM_NUMBER_VENDOR = 3,
@@ -235,14 +246,28 @@ enum {
     OAM_NUMBER_CRITICAL_EVENT = 25,
     OAM_NUMBER_OWED = 26, /* whether an Information frame is owed */
     OAM_NUMBER_DISCOVERY = 27,
-    OAM_NUMBER_INTERVALS = 28 /* the frames of each of 21's intervals: four bits each, the present one's lowest */
+    OAM_NUMBER_INTERVALS = 28, /* the frames of each of 21's intervals: four bits each, the present one's lowest */
+    OAM_NUMBER_FRAME_WINDOW = 29,
+    OAM_NUMBER_FRAME_THRESHOLD = 30,
+    OAM_NUMBER_SECONDS_WINDOW = 31,
+    OAM_NUMBER_SECONDS_THRESHOLD = 32,
+    OAM_NUMBER_FRAME_TICKS = 33,         /* ticks of the present window of bad frames */
+    OAM_NUMBER_FRAME_ERRORS = 34,        /* its bad frames so far, at most 2^32 - 1 */
+    OAM_NUMBER_FRAME_ERROR_TOTAL = 35,   /* bad frames since fresh, modulo 2^64 */
+    OAM_NUMBER_FRAME_EVENT_TOTAL = 36,   /* events of type 2 that arose since fresh, modulo 2^32 */
+    OAM_NUMBER_SECONDS_TICKS = 37,       /* ticks of the present window of errored seconds */
+    OAM_NUMBER_SECONDS_ERRORS = 38,      /* its errored seconds so far, the present second not yet among them */
+    OAM_NUMBER_SECONDS_ERROR_TOTAL = 39, /* errored seconds since fresh, modulo 2^32 */
+    OAM_NUMBER_SECONDS_EVENT_TOTAL = 40, /* events of type 4 that arose since fresh, modulo 2^32 */
+    OAM_NUMBER_STAMP = 41,               /* accepted ticks since fresh, modulo 65,536 */
+    OAM_NUMBER_SECOND_BAD = 42           /* whether the present second has a bad frame */
 };
 
 /*
  * An outcome is what each function that writes returns: the answer in bits 0 to 7, the length written
  * in bits 8 to 39. A call of the machine adds the State octet of the end after the call in bits 40 to
- * 47, and what is shown in bits 48 and 49. The outcome of oam_read_all and that of oam_descriptors have a count
- * in the length's place.
+ * 47, and what is shown in bits 48 and 49; a tick also the number of events that arose in bits 50 and 51. The
+ * outcome of oam_read_all and that of oam_descriptors have a count in the length's place.
  */
 static inline uint8_t oam_answer(uint64_t outcome)
 {
@@ -291,6 +316,12 @@ static inline uint8_t oam_shown(uint64_t outcome)
     return (uint8_t)((outcome >> 48) & 3);
 }
 
+/* The events that arose with a tick and stand in its slice, 0 to 2. */
+static inline size_t oam_arisen(uint64_t outcome)
+{
+    return (size_t)((outcome >> 50) & 3);
+}
+
 /*
  * The machine. The state of an end is OAM_STATE_OCTETS octets that oam_fresh fills and that each call
  * tests and brings up to date. A state slice of another length, or octets that are no state, give
@@ -300,21 +331,40 @@ static inline uint8_t oam_shown(uint64_t outcome)
 /*
  * Makes a fresh end: link down, discovery in FAULT, role Idle, all counts 0. The configuration has bits
  * 0 to 4, the size is 64 to 1,518, the OUI below 2^24, the source address below 2^48 (its first octet
- * highest), the required capabilities are among bits 1 to 4. Returns OAM_ACCEPTED with the state
- * stored, or OAM_OUT_OF_RANGE for other settings or a state slice of another length.
+ * highest), the required capabilities are among bits 1 to 4. The frame window is 10 to 600 ticks, its
+ * threshold 1 to 2^32 - 1 bad frames; the seconds window is 100 to 9,000 ticks and a multiple of 10, its
+ * threshold 1 to 65,535 errored seconds. Returns OAM_ACCEPTED with the state stored, or OAM_OUT_OF_RANGE for
+ * other settings or a state slice of another length.
  */
 uint64_t oam_fresh(uint8_t configuration, uint16_t size, uint32_t oui, uint32_t vendor, uint64_t source,
-                   uint8_t required, uint8_t *state, size_t state_len);
+                   uint8_t required, uint64_t frame_window, uint64_t frame_threshold, uint64_t seconds_window,
+                   uint64_t seconds_threshold, uint8_t *state, size_t state_len);
 
 /*
  * Takes one tick: 100 ms have passed since the one before, never less. It opens an interval, and every
  * tenth makes an Information frame due. Where one is owed or due, and sending is allowed (not in
  * PASSIVE_WAIT, and with the link down only if unidirectional), it is written if fewer than ten frames are
- * written in this interval and the ten before it, and else waits. Returns an outcome: accepted, or
- * OAM_SHORT_OUTPUT for an output under OAM_LEAST_OUT octets, also where nothing would be written; the tick
- * is not counted then, and opens no interval.
+ * written in this interval and the ten before it, and else waits.
+ *
+ * The tick takes the count of bad frames received since the last accepted one, link up or down, for two windows of
+ * ticks. Both run from fresh on, window after window without a gap. At the tick that ends one an event arises
+ * where its errors reach or exceed the threshold: OAM_TYPE_FRAME of the frame window, whose errors are its bad
+ * frames, and OAM_TYPE_FRAME_SECONDS of the seconds window, whose errors are its errored seconds. A second is
+ * ten ticks, from fresh on, and errored where one of them brought a bad frame. The totals of an event are over
+ * all counts since fresh and over all events of its type that arose, itself included, whatever was sent; they
+ * wrap at their field's width. Errors beyond their field show its largest value, and the timestamp is the
+ * ticks since fresh modulo 65,536.
+ *
+ * The seven numbers of each event that arose are stored from the start of the events, OAM_TYPE_FRAME first, as
+ * oam_notify takes them; the numbers behind them keep their values, and oam_arisen says how many events there
+ * are. No event is sent by itself.
+ *
+ * Returns an outcome: accepted, or OAM_SHORT_OUTPUT for events under OAM_ARISEN_NUMBERS numbers or an output
+ * under OAM_LEAST_OUT octets, also where nothing would be stored or written; the tick is not counted then,
+ * opens no interval and takes no count, which is to be given again with the next.
  */
-uint64_t oam_tick(uint8_t *state, size_t state_len, uint8_t *out, size_t out_len);
+uint64_t oam_tick(uint64_t bad_frames, uint64_t *events, size_t events_len, uint8_t *state, size_t state_len,
+                  uint8_t *out, size_t out_len);
 
 /*
  * Takes one report. Writes an Information frame as a tick does where one is owed. Returns an outcome:
@@ -361,7 +411,8 @@ uint64_t oam_request(const uint32_t *descriptors, size_t descriptors_len, uint8_
 
 /*
  * Tells the peer of events: writes an Event Notification frame with 1 to 4 events of seven numbers each,
- * under the next event number, which then grows by one (65,535 going to 0).
+ * under the next event number, which then grows by one (65,535 going to 0). The events are the caller's own, or
+ * those that arose with a tick.
  */
 uint64_t oam_notify(const uint64_t *events, size_t events_len, uint8_t *state, size_t state_len, uint8_t *out,
                     size_t out_len);

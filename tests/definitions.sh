@@ -1,11 +1,11 @@
 #!/usr/bin/env bash
-# Changes the machine's definitions, one at a time, and sees that the theorems of `theorems_reach` and `theorems_pair` no longer
-# hold. `rt must-fail` cannot do this: it changes and proves one crate alone, and the definitions are those of the crates below.
-# Here their code is left out (its contracts would fail before any theorem), so that what is tried is the theorems. Each edit is
-# a file in tests/definitions, in the form of the must-fail edits, with one line more: the theorem that does not hold of the
-# changed definition, and in its comment why. A lemma that fails may need only another proof, so the names of those are printed,
-# and the theorem must be among what is lost with them. Run after `rt check theorems_pair`, whose proofs of `theorems_frame` and
-# of what stands below it are used.
+# Changes the definitions of the machine and of the windows, one at a time, and sees that the theorems of `theorems_reach`,
+# `theorems_pair` and `theorems_windows` no longer hold. `rt must-fail` cannot do this: it changes and proves one crate alone, and
+# the definitions are those of the crates below. Here their code is left out (its contracts would fail before any theorem), so that
+# what is tried is the theorems. Each edit is a file in tests/definitions, in the form of the must-fail edits, with two lines more:
+# the crate that is checked, and the theorem that does not hold of the changed definition, and in its comment why. A lemma that
+# fails may need only another proof, so the names of those are printed, and the theorem must be among what is lost with them. Run
+# after `rt check`, whose proofs of `theorems_frame` and of what stands below it are used.
 set -euo pipefail
 cd "$(dirname "$0")/.."
 edits="$PWD/tests/definitions"
@@ -13,7 +13,7 @@ room="$PWD/target/definitions"
 rm -rf "$room"
 trap 'rm -rf "$room"' EXIT
 mkdir -p "$room/crates" "$room/target/rlib" "$room/target/stamp" "$room/target/log"
-for crate in octets frame_tlvs frame_body frame frame_variables frame_writer theorems_frame link_limit link_peer link_loopback link_discovery link_end link theorems_reach theorems_pair; do
+for crate in octets frame_tlvs frame_body frame frame_variables frame_writer theorems_frame link_limit link_windows link_peer link_loopback link_discovery link_end link theorems_windows theorems_reach theorems_pair; do
   cp -r "crates/$crate" "$room/crates/"
   grep "^$crate:" crates.txt >> "$room/crates.txt"
 done
@@ -30,7 +30,7 @@ types='
   skipping { if ($0 == "}") skipping = 0; next }
   /^pub use / || /^ghost use / || /^use .*::[a-z_0-9]+;$/ { next }
   { print }'
-for crate in link_limit link_peer link_loopback link_discovery link_end link; do
+for crate in link_limit link_windows link_peer link_loopback link_discovery link_end link; do
   for source in "$crate"/src/*.rt; do
     awk "$types" "$source" > types && mv types "$source"
   done
@@ -41,22 +41,22 @@ for crate in link_limit link_peer link_loopback link_discovery link_end link; do
   sed -i '/^mod /d' "$crate/proofs/Lib.antt"
 done
 cd ..
-rt check theorems_pair > log 2>&1 || { cat log; echo "definitions: the theorems do not hold before any edit"; exit 1; }
+rt check theorems_pair theorems_windows > log 2>&1 || { cat log; echo "definitions: the theorems do not hold before any edit"; exit 1; }
 
 line() { sed -n "s/^$1: //p" "$2"; }
 failed=0
 for edit in "$edits"/*.edit; do
   name=$(basename "$edit" .edit)
   file=$(line file "$edit")
-  old=$(line old "$edit") new=$(line new "$edit") theorem=$(line theorem "$edit")
+  old=$(line old "$edit") new=$(line new "$edit") theorem=$(line theorem "$edit") crate=$(line crate "$edit")
   [ "$(grep -cxF -- "$old" "$file")" = 1 ] || { echo "definitions: $name: its old line stands not once"; exit 1; }
   cp "$file" before
   OLD="$old" NEW="$new" awk '{ print $0 == ENVIRON["OLD"] ? ENVIRON["NEW"] : $0 }' before > "$file"
   status=0
-  rt check theorems_pair > log 2>&1 || status=$?
+  rt check "$crate" > log 2>&1 || status=$?
   cp before "$file"
   # What fails for itself, and what is lost with it; antt names the definition that an error stands in.
-  broken=$(grep -a -o -E 'crates/theorems_(reach|pair)/proofs/[A-Za-z]+\.antt:[0-9]+:[0-9]+: error: `[^`]+`.*' log || true)
+  broken=$(grep -a -o -E 'crates/theorems_(reach|pair|windows)/proofs/[A-Za-z]+\.antt:[0-9]+:[0-9]+: error: `[^`]+`.*' log || true)
   first=$(printf '%s\n' "$broken" | head -n 1 | sed 's/: error: .*//')
   names=$(printf '%s\n' "$broken" | grep -v 'was not admitted' | sed -E 's/.*: error: `([^`]+)`.*/\1/' | sort -u | paste -s -d ' ' || true)
   if [ "$status" != 1 ] || [ -z "$names" ] || grep -a -q 'is not in scope' log; then

@@ -1,7 +1,9 @@
 //! Reading as one writes it by hand for speed: what the archive's and the lister's
 //! is measured beside. It is written from the paper too, and apart from `paper`,
 //! which is written to be read. Nothing is allocated, and no value is taken out of
-//! the octets but to be stored.
+//! the octets but to be stored. And the windows over bad frames, written so.
+
+pub mod windows;
 
 use crate::library::{kind, HEADER, ROW};
 use crate::paper::{answer, code, BODY, DESTINATION, LONGEST, SHORTEST, SLOW_PROTOCOLS, SUBTYPE};

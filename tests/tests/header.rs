@@ -1,10 +1,14 @@
 //! The archive's header and the Rattle sources, held together: the octets of a state, the places of the numbers that `oam_show`
-//! stores, the lengths of frames, the most of what a response holds; and the header's version, which every change request
-//! raises.
+//! stores, the lengths of frames, the most of what a response holds, the bounds of windows; the header and the independent
+//! implementation: the places of a watch's numbers, the numbers of events that arise, and the bits of an outcome; and the
+//! header's version, which every change request raises.
 
 mod sources;
 
+use oam_tests::library::machine::{Outcome, ARISEN, SHOWN_NUMBERS};
 use oam_tests::paper;
+use oam_tests::paper::machine::END_NUMBERS;
+use oam_tests::paper::windows::{WatchNumbers, WATCH_NUMBERS};
 use sources::{repository, text};
 use std::collections::BTreeMap;
 use std::fs;
@@ -45,8 +49,8 @@ fn constants(source: &str) -> BTreeMap<String, String> {
         let Some((_, rest)) = line.split_once("const ") else {
             continue;
         };
-        let parted = rest.split_once(": usize = ").or(rest.split_once(": u8 = "));
-        let Some((name, rest)) = parted else {
+        let kinds = [": usize = ", ": u8 = ", ": u64 = "];
+        let Some((name, rest)) = kinds.iter().find_map(|kind| rest.split_once(kind)) else {
             continue;
         };
         constants.insert(name.to_string(), rest.trim_end_matches(';').to_string());
@@ -123,6 +127,48 @@ const PLACES: [(&str, &str); 21] = [
     ("OAM_NUMBER_OWED", "bit_of(own.owed)"),
 ];
 
+/// One of a watch's numbers.
+type OfWatch = fn(&WatchNumbers) -> u64;
+
+/// The places that `oam.h` gives them, behind the end's.
+const WATCH_PLACES: [(&str, OfWatch); WATCH_NUMBERS] = [
+    ("OAM_NUMBER_FRAME_WINDOW", |watch| watch.frames.length),
+    ("OAM_NUMBER_FRAME_THRESHOLD", |watch| watch.frames.threshold),
+    ("OAM_NUMBER_SECONDS_WINDOW", |watch| watch.seconds.length),
+    ("OAM_NUMBER_SECONDS_THRESHOLD", |watch| {
+        watch.seconds.threshold
+    }),
+    ("OAM_NUMBER_FRAME_TICKS", |watch| watch.frames.at),
+    ("OAM_NUMBER_FRAME_ERRORS", |watch| watch.frames.errors),
+    ("OAM_NUMBER_FRAME_ERROR_TOTAL", |watch| watch.frames.total),
+    ("OAM_NUMBER_FRAME_EVENT_TOTAL", |watch| watch.frames.events),
+    ("OAM_NUMBER_SECONDS_TICKS", |watch| watch.seconds.at),
+    ("OAM_NUMBER_SECONDS_ERRORS", |watch| watch.seconds.errors),
+    ("OAM_NUMBER_SECONDS_ERROR_TOTAL", |watch| {
+        watch.seconds.total
+    }),
+    ("OAM_NUMBER_SECONDS_EVENT_TOTAL", |watch| {
+        watch.seconds.events
+    }),
+    ("OAM_NUMBER_STAMP", |watch| watch.stamp),
+    ("OAM_NUMBER_SECOND_BAD", |watch| watch.bad),
+];
+
+/// The names of a watch's numbers whose place in the header is not where the independent implementation shows them.
+fn misplaced_of_watch(header: &str) -> Vec<&'static str> {
+    let named = named_in_header(header);
+    let watch = WatchNumbers::from_packed(&std::array::from_fn(|place| 100 + place as u64));
+    let shown = watch.shown();
+    let stands = |name: &str, number: u64| {
+        let place = named.get(name)?.checked_sub(END_NUMBERS as u64)?;
+        Some(*shown.get(place as usize)? == number)
+    };
+    let wrong = WATCH_PLACES
+        .into_iter()
+        .filter(|(name, number)| stands(name, number(&watch)) != Some(true));
+    wrong.map(|(name, _)| name).collect()
+}
+
 /// A record's numbers are those of an Information TLV.
 const RECORD: [(&str, &str); 7] = [
     ("OAM_INFORMATION_VERSION", "i.version"),
@@ -162,10 +208,54 @@ fn the_numbers_of_an_end_stand_where_the_header_says() {
     let count = shown_numbers(&source).len() as u64;
     assert_eq!(named["OAM_NUMBER_DISCOVERY"], count);
     assert_eq!(named["OAM_NUMBER_INTERVALS"], count + 1);
-    assert_eq!(named["OAM_SHOWN_NUMBERS"], count + 2);
-    let places = named.keys().filter(|name| name.starts_with("OAM_NUMBER_"));
-    assert_eq!(places.count(), PLACES.len() + 2, "a place has no number");
+    assert_eq!(END_NUMBERS as u64, count + 2);
     assert_eq!(count as usize, PLACES.len() + RECORD.len() - 1);
+    let places = named.keys().filter(|name| name.starts_with("OAM_NUMBER_"));
+    let known = PLACES.len() + 2 + WATCH_PLACES.len();
+    assert_eq!(places.count(), known, "a place has no number");
+}
+
+#[test]
+fn the_numbers_of_a_watch_stand_where_the_header_says() {
+    let header = text(&repository().join("include/oam.h"));
+    assert_eq!(misplaced_of_watch(&header), Vec::<&str>::new());
+    let named = named_in_header(&header);
+    assert_eq!(named["OAM_SHOWN_NUMBERS"], SHOWN_NUMBERS as u64);
+    assert_eq!(named["OAM_ARISEN_NUMBERS"], ARISEN as u64);
+    assert_eq!(named["OAM_ARISEN_NUMBERS"], 2 * named["OAM_EVENT_NUMBERS"]);
+}
+
+/// Where a function of the header takes its number from an outcome: the lowest bit, and the mask above it.
+fn bits_taken(header: &str, function: &str) -> Option<(u32, u64)> {
+    let (_, body) = header.split_once(&format!(" {function}(uint64_t outcome)\n{{\n"))?;
+    let line = body.lines().next()?.trim();
+    let (_, taken) = line.split_once("(outcome >> ")?;
+    let (shift, mask) = taken.trim_end_matches([';', ')']).split_once(") & ")?;
+    Some((shift.parse().ok()?, number_in(mask)?))
+}
+
+#[test]
+fn an_outcome_is_taken_apart_as_the_header_says() {
+    let header = text(&repository().join("include/oam.h"));
+    type Taken = fn(&Outcome) -> u64;
+    let parts: [(&str, Taken); 3] = [
+        ("oam_state_octet", |outcome| outcome.octet.into()),
+        ("oam_shown", |outcome| outcome.shown.into()),
+        ("oam_arisen", |outcome| outcome.arisen as u64),
+    ];
+    for (function, own) in parts {
+        let (shift, mask) = bits_taken(&header, function).expect(function);
+        for bit in 0..64 {
+            let number = 1 << bit;
+            let taken = number >> shift & mask;
+            assert_eq!(taken, own(&Outcome::of(number)), "{function}, bit {bit}");
+        }
+    }
+    assert_eq!(bits_taken(&header, "oam_arisen"), Some((50, 3)));
+    assert_eq!(Outcome::of(u64::MAX).above, u64::MAX >> 52);
+    let changed = header.replace("(outcome >> 50)", "(outcome >> 51)");
+    assert_eq!(bits_taken(&changed, "oam_arisen"), Some((51, 3)));
+    assert_eq!(bits_taken(&header, "oam_risen"), None);
 }
 
 #[test]
@@ -176,6 +266,10 @@ fn a_place_that_is_another_is_seen() {
     assert_eq!(misplaced(&changed, &source), ["OAM_NUMBER_OUI"]);
     let changed = source.replace("i.revision as u64", "i.state as u64");
     assert_eq!(misplaced(&header, &changed), ["OAM_INFORMATION_REVISION"]);
+    let changed = header.replace("OAM_NUMBER_STAMP = 41", "OAM_NUMBER_STAMP = 40");
+    assert_eq!(misplaced_of_watch(&changed), ["OAM_NUMBER_STAMP"]);
+    let changed = header.replace("OAM_NUMBER_SECOND_BAD", "OAM_NUMBER_BAD");
+    assert_eq!(misplaced_of_watch(&changed), ["OAM_NUMBER_SECOND_BAD"]);
 }
 
 #[test]
@@ -221,6 +315,31 @@ fn a_response_holds_what_the_header_says() {
         assert_eq!(named.get(name), Some(&own), "{name}");
         assert_eq!(number_of(&variables, "", constant), own, "{constant}");
     }
+}
+
+/// The bounds of the four settings of a watch. The least thresholds are 1 and have no constant in the sources.
+#[test]
+fn windows_and_thresholds_are_within_what_the_header_says() {
+    let header = text(&repository().join("include/oam.h"));
+    let named = named_in_header(&header);
+    let windows = modules("link_windows");
+    for constant in [
+        "LEAST_FRAME_WINDOW",
+        "MOST_FRAME_WINDOW",
+        "MOST_FRAME_THRESHOLD",
+        "LEAST_SECONDS_WINDOW",
+        "MOST_SECONDS_WINDOW",
+        "MOST_SECONDS_THRESHOLD",
+    ] {
+        let bound = number_of(&windows, "ranges", constant);
+        assert_eq!(
+            named[format!("OAM_{constant}").as_str()],
+            bound,
+            "{constant}"
+        );
+    }
+    assert_eq!(named["OAM_LEAST_FRAME_THRESHOLD"], 1);
+    assert_eq!(named["OAM_LEAST_SECONDS_THRESHOLD"], 1);
 }
 
 #[test]

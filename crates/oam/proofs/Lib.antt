@@ -2,3 +2,4 @@
 pub mod Written
 pub mod Stepped
 pub mod LentNumbers
+mod Arisen

@@ -1,5 +1,5 @@
 -- What an entry that takes a call gives back: a number alone, or what the call comes to.
-use Prim.Native.Nat.{ℕ}
+use Prim.Native.Nat.{ℕ, _+_}
 use mathlib.Core.Path.{_≡_, refl, sym, ap, _∙_}
 use mathlib.Core.List.{List, _++_}
 use native.Mathlib.Nat.{zero-add}
@@ -14,7 +14,7 @@ use Rattle.link_end.specs.declared.MaybeEnd.the-variants.{Refused, Is}
 use Rattle.link_end.specs.declared.News.the-variants.{Nothing}
 use Rattle.link.specs.declared.Outcome.{Outcome}
 use Rattle.link.specs.Outcomes.{outcome}
-use Rattle.oam_packing.specs.Octets.{packedIn}
+use Rattle.link_windows.specs.declared.MaybeWatch.{MaybeWatch}
 use Rattle.oam_outcomes.specs.Stepped.{steppedNumber, steppedState}
 use Rattle.oam_showing.specs.Showing.{Showing}
 use Rattle.oam.specs.Machine.{Stepping, Freshly, newsShown, Receiving}
@@ -62,12 +62,16 @@ module _ {call : End → Outcome} {output : End → List ℕ → List ℕ} (foun
   unheard h = record { steps = refused h; hears = rw h }
 
 -- a fresh end is made, or none
-pub unmade : (made : MaybeEnd) (state : List ℕ) {n : ℕ} → made ≡ Refused n → Freshly made state n state
-unmade made state h = rw h (record { answers = refl; keeps = refl })
+pub unmade : (made : MaybeEnd) (watch : MaybeWatch) (state : List ℕ) {n : ℕ} → made ≡ Refused n → Freshly made watch state n state
+unmade made watch state h = rw h (record { answers = refl; keeps = refl })
 
-pub fresh-made : (made : MaybeEnd) (state : List ℕ) {e : End} {state′ : List ℕ} → made ≡ Is e → state′ ≡ packedIn e state → Freshly made state 0 state′
-fresh-made made state h p = rw h (record { answers = refl; keeps = p })
-
--- numbers stored after others
-pub more-stored : (l xs ys : List ℕ) (n : ℕ) → length xs ≡ n → sets (sets l 0 xs) n ys ≡ sets l 0 (xs ++ ys)
+-- numbers stored after others, and more after those
+more-stored : (l xs ys : List ℕ) (n : ℕ) → length xs ≡ n → sets (sets l 0 xs) n ys ≡ sets l 0 (xs ++ ys)
 more-stored l xs ys n h = sym (sets-append l 0 xs ys ∙ ap (λ (k : ℕ). sets (sets l 0 xs) k ys) (zero-add (length xs) ∙ h))
+
+pub thrice-stored : (l xs ys zs : List ℕ) (m n : ℕ) → length xs ≡ m → m + length ys ≡ n
+    → sets (sets (sets l 0 xs) m ys) n zs ≡ sets l 0 (xs ++ (ys ++ zs))
+thrice-stored l xs ys zs m n h k =
+    ap (λ (p : ℕ). sets (sets (sets l 0 xs) m ys) p zs) (sym k)
+    ∙ sym (sets-append (sets l 0 xs) m ys zs)
+    ∙ more-stored l xs (ys ++ zs) m h

@@ -3,3 +3,4 @@ pub mod Lending
 pub mod Writing
 pub mod Logging
 pub mod Machine
+pub mod Ticking

@@ -22,7 +22,11 @@ use Rattle.theorems_reach.specs.Machine.{report, receive, outcomeBy, outputBy}
 use Rattle.oam_outcomes.specs.Stepped.{steppedNumber, steppedState}
 use Rattle.link_end.specs.Parts.{freshOf, discoveryOf}
 use Rattle.oam_packing.specs.Numbers.{numbersOf}
-use Rattle.oam_packing.specs.Octets.{stateLength, packedIn}
+use Rattle.link_windows.specs.declared.MaybeWatch.{MaybeWatch}
+use Rattle.link_windows.specs.declared.MaybeWatch.the-variants.{Refused as WatchRefused, Is as WatchIs}
+use Rattle.link_windows.specs.declared.Watch.{Watch}
+use Rattle.oam_packing.specs.Watches.{watchShown}
+use Rattle.oam_packing.specs.Octets.{stateLength, packedIn, watchPackedIn}
 use Rattle.oam_showing.specs.Showing.{Shown, shows, roomy}
 use Rattle.oam_showing.specs.Reading.{headerShown}
 
@@ -57,18 +61,20 @@ settingsOf configuration size oui vendor source required =
 unfoldable pub freshFor : Settings → List ℕ → MaybeEnd
 freshFor s state = cond (eqb (length state) stateLength) (freshOf s) (Refused 10)
 
-abbrev pub freshAnswer : MaybeEnd → ℕ
-freshAnswer (Refused n) = n
-freshAnswer (Is e) = 0
+abbrev pub freshAnswer : MaybeEnd → MaybeWatch → ℕ
+freshAnswer (Refused n) watch = n
+freshAnswer (Is e) (WatchRefused n) = n
+freshAnswer (Is e) (WatchIs w) = 0
 
-abbrev pub freshState : MaybeEnd → List ℕ → List ℕ
-freshState (Refused n) state = state
-freshState (Is e) state = packedIn e state
+abbrev pub freshState : MaybeEnd → MaybeWatch → List ℕ → List ℕ
+freshState (Refused n) watch state = state
+freshState (Is e) (WatchRefused n) state = state
+freshState (Is e) (WatchIs w) state = watchPackedIn w (packedIn e state)
 
--- the entry that makes a fresh end
-pub record Freshly (made : MaybeEnd) (state : List ℕ) (answer : ℕ) (state′ : List ℕ) : Type 0 where
-  pub answers : answer ≡ freshAnswer made
-  pub keeps : state′ ≡ freshState made state
+-- the entry that makes a fresh end and a fresh watch, or neither
+pub record Freshly (made : MaybeEnd) (watch : MaybeWatch) (state : List ℕ) (answer : ℕ) (state′ : List ℕ) : Type 0 where
+  pub answers : answer ≡ freshAnswer made watch
+  pub keeps : state′ ≡ freshState made watch state
 
 -- ---- reports
 
@@ -114,10 +120,10 @@ pub record Receiving (call : End → Outcome) (output : End → List ℕ → Lis
 
 -- ---- what an end shows
 
--- its 27 numbers, where discovery stands, and the digits of its intervals
-unfoldable pub endNumbers : End → Shown
-endNumbers e = shows 0 (numbersOf e ++ (standingNumber (discoveryOf e) ∷ e .meter .intervals ∷ []))
+-- its 27 numbers, where discovery stands, the digits of its intervals, and the fourteen numbers of its watch
+unfoldable pub endNumbers : End → Watch → Shown
+endNumbers e w = shows 0 (numbersOf e ++ ((standingNumber (discoveryOf e) ∷ e .meter .intervals ∷ []) ++ watchShown w))
 
-abbrev pub endShown : MaybeEnd → ℕ → Shown
-endShown (Refused n) room = shows n []
-endShown (Is e) room = roomy 29 9 room (endNumbers e)
+abbrev pub endShown : MaybeEnd → Watch → ℕ → Shown
+endShown (Refused n) w room = shows n []
+endShown (Is e) w room = roomy 43 9 room (endNumbers e w)

@@ -6,13 +6,15 @@
 // `theorems_archive`). A refusal leaves every lent slice as it was. What an entry reads is shown as numbers in lent slices (the
 // crate `oam_showing`).
 //
-// An end of the link is kept in octets that the caller lends to each call (the crate `oam_packing`). The outcome of a call has
-// the State octet after it in bits 40 to 47, and what is shown in bits 48 and 49.
+// An end of the link and its watch are kept in octets that the caller lends to each call (the crate `oam_packing`). The outcome
+// of a call has the State octet after it in bits 40 to 47, what is shown in bits 48 and 49, and of a tick how many events arose in
+// bits 50 and 51.
 mod lending;
 mod logging;
 mod machine;
 mod reading;
 mod requesting;
+mod ticking;
 mod writing;
 
 pub use logging::oam_log_read;
@@ -21,7 +23,6 @@ pub use machine::oam_fresh;
 pub use machine::oam_receive;
 pub use machine::oam_report;
 pub use machine::oam_show;
-pub use machine::oam_tick;
 pub use reading::oam_descriptors;
 pub use reading::oam_read;
 pub use reading::oam_read_all;
@@ -31,6 +32,7 @@ pub use requesting::oam_request;
 pub use requesting::oam_respond;
 pub use requesting::oam_start;
 pub use requesting::oam_stop;
+pub use ticking::oam_tick;
 pub use writing::oam_write_information;
 pub use writing::oam_write_loopback;
 pub use writing::oam_write_notification;

@@ -1,4 +1,4 @@
--- Lists of octets: parts one after another, stored and taken apart again, and one turn of `is_zeros`.
+-- Lists of octets: parts one after another, and taken apart again.
 use Prim.Native.Nat.{ℕ, zero, suc, _+_, _≤_}
 use mathlib.Core.Path.{_≡_, refl, sym, ap, _∙_}
 use mathlib.Core.List.{List, [], _∷_, _++_, append-assoc, append-nil}
@@ -8,7 +8,7 @@ use lib.ListN.{length, getD, take, drop, length-drop, take-append-drop, drop-of-
 use lib.Seq.{take-at, drop-drop, length-take-le}
 use Rattle.octets.specs.Octets.{Octets, total}
 use Rattle.octets.proofs.Numbers.{past, octets-from}
-use Rattle.oam_packing.specs.Parts.{together, partsAt}
+use Rattle.oam_packing.specs.Parts.{together, partsAt, partOf}
 use Rattle.oam_packing.proofs.Joining.{lengths}
 
 -- parts that stand one after another are those taken
@@ -17,6 +17,17 @@ parts-read [] s at y e = refl
 parts-read (x ∷ xs) s at y e =
     let e′ : drop at s ≡ x ++ (together xs ++ y) = e ∙ append-assoc x (together xs) y in
     rw (e′, take-at x (together xs ++ y) (length x) refl, parts-read xs s (at + length x) y (past s at (length x) x (together xs ++ y) refl e′))
+
+-- so each is taken by its place
+pub part-at : (ns : List ℕ) (xs : List (List ℕ)) (k : ℕ) → lengths xs ≡ ns → partOf ns k (together xs) ≡ getD xs k []
+part-at ns xs k l =
+    let s = together xs in
+    rw (← l) (ap (λ (ys : List (List ℕ)). getD ys k []) (parts-read xs s 0 [] (sym (append-nil s))))
+
+-- one part more
+pub together-last : (xs : List (List ℕ)) (y : List ℕ) → together (xs ++ (y ∷ [])) ≡ together xs ++ y
+together-last [] y = append-nil y
+together-last (x ∷ xs) y = ap (λ (l : List ℕ). x ++ l) (together-last xs y) ∙ sym (append-assoc x (together xs) y)
 
 -- the parts that are taken stand one after another
 parts-stand : (ns : List ℕ) (s : List ℕ) (at : ℕ) → drop at s ≡ together (partsAt ns s at) ++ drop (at + total ns) s

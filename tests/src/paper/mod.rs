@@ -1,5 +1,5 @@
 //! The paper's frames: their readings, their answers, their plain form, the two
-//! texts, listing and log, and the link machine.
+//! texts, listing and log, the link machine, and the windows over bad frames.
 
 pub mod answer;
 mod attribute;
@@ -14,6 +14,7 @@ mod plain;
 mod read;
 mod text;
 pub mod walk;
+pub mod windows;
 mod write;
 
 #[cfg(test)]

@@ -25,28 +25,38 @@ pub struct Stray<T> {
 
 impl Lent<u8> {
     pub fn octets(random: &mut Random, length: usize) -> Self {
-        Lent::filled(random, length, Random::octet)
+        Lent::filled(random, length, |random| random.number().to_be_bytes())
     }
 }
 
 impl Lent<u32> {
     pub fn descriptors(random: &mut Random, length: usize) -> Self {
-        Lent::filled(random, length, |random| random.number() as u32)
+        Lent::filled(random, length, |random| [random.number() as u32])
     }
 }
 
 impl Lent<u64> {
     pub fn numbers(random: &mut Random, length: usize) -> Self {
-        Lent::filled(random, length, Random::number)
+        Lent::filled(random, length, |random| [random.number()])
     }
 }
 
 impl<T: Copy + PartialEq> Lent<T> {
-    fn filled(random: &mut Random, length: usize, draw: fn(&mut Random) -> T) -> Self {
+    /// Filled by draws of so many elements each.
+    fn filled<const N: usize>(
+        random: &mut Random,
+        length: usize,
+        draw: fn(&mut Random) -> [T; N],
+    ) -> Self {
         let start = random.between(GUARD, 2 * GUARD - 1);
         let count = start + length + GUARD;
+        let mut memory = Vec::with_capacity(count + N);
+        while memory.len() < count {
+            memory.extend(draw(random));
+        }
+        memory.truncate(count);
         Lent {
-            memory: (0..count).map(|_| draw(random)).collect(),
+            memory,
             start,
             length,
         }

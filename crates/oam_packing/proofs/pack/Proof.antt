@@ -17,7 +17,7 @@ returns-2 c =
     let a = c .before .before .before .before .before .before .before .before .before .before .args in
     let s = now (a .state) in
     let long = c .before .before .before .before .before .before .before .before .if1 .left in
-    rw (eq-eqb (length s) stateLength long, c .before .before .put-others .ensures, c .before .before .before .before .before .before .put-first .ensures) (parts-stored (a .e) s long)
+    rw (eq-eqb (length s) stateLength long, c .before .before .put-others .ensures, c .before .before .before .before .before .before .put-first .ensures) (parts-stored (a .e) s)
 
 pub pack-spec : {M : Type 1} → statement M
 pack-spec = tie.close (tie.spec returns (λ c κs. search needs) (λ c κs. search needs) (λ c. search needs) returns-2)

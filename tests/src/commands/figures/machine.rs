@@ -1,36 +1,53 @@
-//! The archive's link machine beside the paper's, each call from the same end
-//! every time.
+//! The archive's link machine beside the paper's, each call from the same state
+//! every time. Of a tick the paper's end is taken, and windows with running sums.
 
 use super::frames::{frame, EVENTS};
 use super::meter::Meter;
 use crate::commands::Outcome;
+use oam_tests::by_hand::windows::Watch;
 use oam_tests::library::machine::{
-    packed, unpacked, Call, Machine, Response, RECEIVED, STATE_OCTETS,
+    Call, Machine, Response, Setup, State, ARISEN, SHOWN_NUMBERS, STATE_OCTETS,
 };
-use oam_tests::library::{Archive, ByPaper};
-use oam_tests::paper::machine::{Discovery, End, Report, Role, Settings, END_NUMBERS, SECOND};
+use oam_tests::library::Archive;
+use oam_tests::paper::machine::{Discovery, Report, Role, Settings, LOST_LINK, SECOND};
+use oam_tests::paper::windows::Windows;
 use oam_tests::paper::{answer, code, BODY, LONGEST, MOST_ASKED, MOST_ATTRIBUTES};
 use std::hint::black_box;
 
-/// A passive end with loopback, events and retrieval; its peer is active.
-const SETTINGS: Settings = Settings {
-    configuration: 0x1C,
-    size: 1518,
-    oui: 0x00_1B21,
-    vendor: 0xDEAD_BEEF,
-    source: 0x0200_0000_0002,
-    required: 0,
+/// A passive end with loopback, events and retrieval; its peer is active. Both
+/// windows are the shortest.
+const SETUP: Setup = Setup {
+    settings: Settings {
+        configuration: 0x1C,
+        size: 1518,
+        oui: 0x00_1B21,
+        vendor: 0xDEAD_BEEF,
+        source: 0x0200_0000_0002,
+        required: 0,
+    },
+    windows: Windows {
+        frame_window: 10,
+        frame_threshold: 1,
+        seconds_window: 100,
+        seconds_threshold: 1,
+    },
 };
+/// A tick of a link without, and one of a link with bad frames.
+const QUIET: Call = Call::Tick(0);
+const BAD: Call = Call::Tick(3);
 
 pub fn measure(meter: &mut impl Meter) -> Outcome {
     let any = Stand::in_send_any()?;
-    let last = any.after(&vec![Call::Tick; usize::from(SECOND) - 1])?;
+    let last = any.after(&vec![QUIET; usize::from(SECOND) - 1])?;
+    let both = any.before_both_windows_end()?;
     let information = Call::Receive(frame(code::INFORMATION)?);
     let notification = Call::Receive(frame(code::NOTIFICATION)?);
     let enable = Call::Receive(frame(code::LOOPBACK)?);
     let broken = Call::Receive(broken()?);
-    any.measure(meter, "tick that writes nothing", &Call::Tick, (0, 0))?;
-    last.measure(meter, "tenth tick that writes", &Call::Tick, (0, 60))?;
+    any.measure(meter, "tick that writes nothing", &BAD, (0, 0))?;
+    any.measure(meter, "tick with count 0", &QUIET, (0, 0))?;
+    last.measure(meter, "tenth tick that writes", &QUIET, (0, 60))?;
+    both.measure(meter, "tick that ends both windows", &BAD, (0, 60))?;
     any.measure(
         meter,
         "receive Information, nothing owed",
@@ -90,19 +107,19 @@ fn broken() -> Result<Vec<u8>, String> {
     Ok(frame)
 }
 
-/// The same end in the archive's octets and by the paper.
+/// The same state in the archive's octets and by the paper.
 #[derive(Clone)]
 pub struct Stand {
     pub state: [u8; STATE_OCTETS],
-    end: End,
+    paper: State,
 }
 
 impl Stand {
     fn fresh() -> Result<Self, String> {
         let mut state = [0; STATE_OCTETS];
-        let end = End::fresh(&SETTINGS).map_err(|answer| format!("fresh: {answer}"))?;
-        match Archive.fresh(&SETTINGS, &mut state) {
-            0 => Ok(Stand { state, end }),
+        let paper = State::fresh(&SETUP).map_err(|answer| format!("fresh: {answer}"))?;
+        match Archive.fresh(&SETUP, &mut state) {
+            0 => Ok(Stand { state, paper }),
             outcome => Err(format!("oam_fresh answers {outcome}")),
         }
     }
@@ -112,14 +129,31 @@ impl Stand {
         let up = Call::Report(Report::LinkUp as u8);
         let peer = Call::Receive(frame(code::INFORMATION)?);
         let stand = Stand::fresh()?.after(&[up, peer])?;
-        let end = &stand.end;
+        let end = &stand.paper.end;
         match end.discovery == Discovery::SendAny && end.role == Role::Idle && !end.owed {
             true => Ok(stand),
             false => Err(format!("the end is not in SEND_ANY: {end:?}")),
         }
     }
 
-    /// The end behind these calls.
+    /// The state in which the next tick ends both windows, with an event each, and
+    /// writes. The peer is heard often enough.
+    fn before_both_windows_end(&self) -> Result<Self, String> {
+        let heard = Call::Receive(frame(code::INFORMATION)?);
+        let ticks = SETUP.windows.seconds_window as usize - 1;
+        let mut calls = Vec::new();
+        for ticks in vec![BAD; ticks].chunks(usize::from(LOST_LINK) / 2) {
+            calls.push(heard.clone());
+            calls.extend_from_slice(ticks);
+        }
+        let stand = self.after(&calls)?;
+        match stand.clone().step(&BAD)? >> 50 {
+            2 => Ok(stand),
+            arisen => Err(format!("{arisen} events arise where both windows end")),
+        }
+    }
+
+    /// The state behind these calls.
     fn after(&self, calls: &[Call]) -> Result<Self, String> {
         let mut stand = self.clone();
         for call in calls {
@@ -130,27 +164,26 @@ impl Stand {
 
     /// Makes a call on both sides, and gives its outcome.
     fn step(&mut self, call: &Call) -> Result<u64, String> {
-        let (mut header, mut own_header) = ([0; RECEIVED], [0; RECEIVED]);
+        let (mut numbers, mut own_numbers) = ([0; ARISEN], [0; ARISEN]);
         let (mut out, mut own_out) = ([0; LONGEST], [0; LONGEST]);
-        let mut own_state = packed(&self.end);
-        let outcome = Archive.call(call, &mut header, &mut self.state, &mut out);
-        let expected = ByPaper.call(call, &mut own_header, &mut own_state, &mut own_out);
-        self.end = unpacked(&own_state).ok_or("the paper's machine left no state")?;
-        let same = outcome == expected && header == own_header && out == own_out;
-        match same && self.numbers() == self.end.numbers() {
+        let outcome = Archive.call(call, &mut numbers, &mut self.state, &mut out);
+        let expected = self.paper.call(call, &mut own_numbers, &mut own_out);
+        let same = outcome == expected && numbers == own_numbers && out == own_out;
+        match same && self.numbers() == self.paper.numbers() {
             true => Ok(outcome),
             false => Err(format!("{call} differs; see the command machine")),
         }
     }
 
-    fn numbers(&self) -> [u64; END_NUMBERS] {
-        let mut numbers = [0; END_NUMBERS];
+    fn numbers(&self) -> [u64; SHOWN_NUMBERS] {
+        let mut numbers = [0; SHOWN_NUMBERS];
         Archive.show(&self.state, &mut numbers);
         numbers
     }
 
     /// Measures a call that gives this answer and length. The archive's state is
-    /// put back before each call; the paper's machine leaves its own as it was.
+    /// put back before each call, and so are windows; the paper's end leaves its own
+    /// as it was.
     fn measure(
         &self,
         meter: &mut impl Meter,
@@ -162,25 +195,36 @@ impl Stand {
         if outcome & 0xFF_FFFF_FFFF != length << 8 | u64::from(answer) {
             return Err(format!("{what}: the outcome is {outcome:x}").into());
         }
-        let (mut header, mut state) = ([0; RECEIVED], self.state);
+        let (mut numbers, mut own_numbers) = ([0; ARISEN], [0; ARISEN]);
+        let stands = Watch::at(&self.paper.watch.numbers());
+        let (mut state, mut watch) = (self.state, stands);
         let (mut out, mut own_out) = ([0; LONGEST], [0; LONGEST]);
         meter.row(
             what,
             || {
                 state = self.state;
-                Archive.call(black_box(call), &mut header, &mut state, &mut out)
+                Archive.call(black_box(call), &mut numbers, &mut state, &mut out)
             },
-            || black_box(call).step(black_box(&self.end), &mut own_out),
+            || {
+                let call = black_box(call);
+                let step = call.step(black_box(&self.paper.end), &mut own_out);
+                watch = stands;
+                let arisen = match call {
+                    Call::Tick(count) => black_box(&mut watch).take(*count, &mut own_numbers),
+                    _ => 0,
+                };
+                (step, arisen)
+            },
         );
         Ok(())
     }
 
     fn measure_show(&self, meter: &mut impl Meter) {
-        let mut numbers = [0; END_NUMBERS];
+        let mut numbers = [0; SHOWN_NUMBERS];
         meter.row(
             "show an end",
             || Archive.show(black_box(&self.state), &mut numbers),
-            || black_box(&self.end).numbers(),
+            || black_box(&self.paper).numbers(),
         );
     }
 }

@@ -160,7 +160,7 @@ mod tests {
         let mut steady = Steady::default();
         frames::measure(&mut steady).expect("the archive is the paper's");
         machine::measure(&mut steady).expect("the archive's machine is the paper's");
-        assert_eq!(steady.rows, 6 + 6 + 4 + 1 + 10);
+        assert_eq!(steady.rows, 6 + 6 + 4 + 1 + 12);
         assert_eq!(steady.names.len(), steady.rows);
     }
 }

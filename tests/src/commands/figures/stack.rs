@@ -1,12 +1,14 @@
 //! The most stack that each entry of the archive took, over many inputs.
 
 use super::machine::Stand;
-use oam_tests::generate::machine::{any_settings, directed_scripts, Script};
+use oam_tests::generate::machine::{any_setup, directed_scripts, Script};
 use oam_tests::generate::{any_draft, any_frame, any_log_entry, any_log_line, every_frame};
-use oam_tests::library::machine::{Call, Machine, Turn, RECEIVED, STATE_OCTETS};
+use oam_tests::library::machine::{
+    Call, Machine, Setup, State, Turn, ARISEN, SHOWN_NUMBERS, STATE_OCTETS,
+};
 use oam_tests::library::{writer_name, Archive, Library, HEADER, ROW};
 use oam_tests::measure::stack::PaintedStack;
-use oam_tests::paper::machine::{End, Settings, END_NUMBERS};
+use oam_tests::paper::machine::End;
 use oam_tests::paper::{code, log, LONGEST, MOST_PARTS};
 use oam_tests::random::Random;
 use std::collections::BTreeMap;
@@ -43,8 +45,8 @@ pub fn measure(seed: u64) -> Result<Depths, String> {
     for _ in 0..SCRIPTS {
         depths.script();
     }
-    for (settings, turns) in directed_scripts() {
-        depths.directed(&settings, &turns);
+    for (setup, turns) in directed_scripts(&mut depths.random) {
+        depths.directed(&setup, &turns);
     }
     Ok(depths)
 }
@@ -108,9 +110,9 @@ impl Depths {
     }
 
     fn script(&mut self) {
-        let (settings, _) = any_settings(&mut self.random);
-        let mut state = self.fresh(&settings);
-        let mut script = Script::new(&mut self.random, &settings);
+        let (setup, _) = any_setup(&mut self.random);
+        let mut state = self.fresh(&setup);
+        let mut script = Script::new(&mut self.random, &setup.settings);
         for _ in 0..SCRIPT_CALLS {
             let Some(end) = self.show(&state) else {
                 return; // the settings were refused
@@ -120,23 +122,23 @@ impl Depths {
         }
     }
 
-    fn directed(&mut self, settings: &Settings, turns: &[Turn]) {
-        let mut state = self.fresh(settings);
+    fn directed(&mut self, setup: &Setup, turns: &[Turn]) {
+        let mut state = self.fresh(setup);
         for turn in turns {
             self.call(&turn.call, &mut state);
         }
     }
 
-    fn fresh(&mut self, settings: &Settings) -> [u8; STATE_OCTETS] {
+    fn fresh(&mut self, setup: &Setup) -> [u8; STATE_OCTETS] {
         let mut state = [0; STATE_OCTETS];
-        self.note("oam_fresh", || Archive.fresh(settings, &mut state));
+        self.note("oam_fresh", || Archive.fresh(setup, &mut state));
         state
     }
 
     fn show(&mut self, state: &[u8]) -> Option<End> {
-        let mut numbers = [0; END_NUMBERS];
+        let mut numbers = [0; SHOWN_NUMBERS];
         self.note("oam_show", || Archive.show(state, &mut numbers));
-        End::from_numbers(&numbers)
+        State::from_numbers(&numbers).map(|shown| shown.end)
     }
 
     /// Makes a call, mostly with room for every frame.
@@ -145,11 +147,11 @@ impl Depths {
             0 => self.random.below(LONGEST),
             _ => LONGEST,
         };
-        let (mut header, mut out) = ([0; RECEIVED], [0; LONGEST]);
+        let (mut numbers, mut out) = ([0; ARISEN], [0; LONGEST]);
         let out = &mut out[..room];
         match call {
             Call::Respond(given) => self.note(call.name(), || Archive.respond(given, state, out)),
-            _ => self.note(call.name(), || Archive.call(call, &mut header, state, out)),
+            _ => self.note(call.name(), || Archive.call(call, &mut numbers, state, out)),
         }
     }
 }

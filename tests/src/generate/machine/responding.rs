@@ -2,7 +2,7 @@
 //! just do not, with as many attributes and descriptors as there may be and one
 //! more, and at ends of every configuration.
 
-use super::directed::{reported, with_room, Directed};
+use super::directed::{reported, with_room, Uncounted};
 use super::wraps::{received, stretch_of_ticks, COMPLETE};
 use crate::library::machine::{Call, Response};
 use crate::paper::machine::{configuration, Report, Settings, FCS, MOST_FRAMES};
@@ -22,7 +22,7 @@ const WIDEST: usize = 128;
 /// An attribute that is not held.
 const UNKNOWN: u32 = 0xFE_0001;
 
-pub fn responding_scripts() -> Vec<Directed> {
+pub fn responding_scripts() -> Vec<Uncounted> {
     let mut scripts = Vec::new();
     for size in SIZES_OF_NOTE {
         let room = usize::from(size) - FCS - BODY;
@@ -53,7 +53,7 @@ pub fn responding_scripts() -> Vec<Directed> {
 
 /// Responses of an end in SEND_ANY, or in no more than SEND_LOCAL_REMOTE where both
 /// are passive, by the configurations and maximum sizes of both.
-fn script(own: (u8, u16), peer: (u8, u16), responses: Vec<Call>) -> Directed {
+fn script(own: (u8, u16), peer: (u8, u16), responses: Vec<Call>) -> Uncounted {
     let (configuration, size) = own;
     let settings = Settings {
         configuration,

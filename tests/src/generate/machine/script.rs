@@ -1,6 +1,7 @@
 //! Scripts of calls: for some calls at a time they go one way, so that even what
 //! needs many calls of one kind is reached often.
 
+use super::counts::Counts;
 use super::peer::Peer;
 use super::requests::any_request;
 use crate::generate::any_frame;
@@ -10,6 +11,7 @@ use crate::random::Random;
 
 pub struct Script {
     peer: Peer,
+    counts: Counts,
     mood: Mood,
     /// Calls left in this mood.
     left: usize,
@@ -58,6 +60,7 @@ impl Script {
     pub fn new(random: &mut Random, settings: &Settings) -> Self {
         Script {
             peer: Peer::of(random, settings),
+            counts: Counts::default(),
             mood: Mood::Mixed,
             left: random.between(0, 20),
         }
@@ -84,7 +87,7 @@ impl Script {
             Mood::Mixed => self.mixed(random, end),
             Mood::Loopback => self.loopback(random, end),
             Mood::Flood => self.flood(random, end),
-            Mood::Silence => silence(random, end),
+            Mood::Silence => self.silence(random, end),
             Mood::Reports => Call::Report(report(random)),
             Mood::Hostile => Call::Receive(any_frame(random).frame),
         }
@@ -101,7 +104,7 @@ impl Script {
 
     fn mixed(&mut self, random: &mut Random, end: &End) -> Call {
         match random.below(16) {
-            0..=5 => Call::Tick,
+            0..=5 => self.tick(random),
             6..=8 => Call::Receive(self.peer.information(random, end)),
             9 => Call::Receive(self.peer.notification(random)),
             10 => Call::Receive(self.peer.command(random)),
@@ -115,11 +118,11 @@ impl Script {
     fn loopback(&mut self, random: &mut Random, end: &End) -> Call {
         match random.below(12) {
             0 | 1 => Call::Start,
-            2 if !random.one_in(3) => Call::Tick,
+            2 if !random.one_in(3) => self.tick(random),
             2 => Call::Stop,
             3 | 4 if matches!(end.role, Role::Holding | Role::Ending) => Call::Stop,
             3..=5 => Call::Receive(self.peer.command(random)),
-            6 | 7 => Call::Tick,
+            6 | 7 => self.tick(random),
             8 => any_request(random, smaller_size(end)),
             _ => Call::Receive(self.peer.information(random, end)),
         }
@@ -127,12 +130,23 @@ impl Script {
 
     fn flood(&mut self, random: &mut Random, end: &End) -> Call {
         match random.below(16) {
-            0 => Call::Tick,
+            0 => self.tick(random),
             1 => Call::Receive(self.peer.information(random, end)),
             2 => Call::Receive(self.peer.command(random)),
             3 => Call::Report(random.octet_between(2, 5)),
             _ => any_request(random, smaller_size(end)),
         }
+    }
+
+    fn silence(&mut self, random: &mut Random, end: &End) -> Call {
+        match random.one_in(64) {
+            true => any_request(random, smaller_size(end)),
+            false => self.tick(random),
+        }
+    }
+
+    fn tick(&mut self, random: &mut Random) -> Call {
+        Call::Tick(self.counts.next(random))
     }
 }
 
@@ -141,13 +155,6 @@ fn smaller_size(end: &End) -> usize {
     let peer = end.peer.map(|peer| peer.maximum_size());
     let size = peer.map_or(end.settings.size, |peer| peer.min(end.settings.size));
     size.max(SMALLEST_SIZE).into()
-}
-
-fn silence(random: &mut Random, end: &End) -> Call {
-    match random.one_in(64) {
-        true => any_request(random, smaller_size(end)),
-        false => Call::Tick,
-    }
 }
 
 /// A report that may write what is owed, or a link down, which mostly drops it.

@@ -1,7 +1,10 @@
-//! Settings in range and out of it.
+//! Settings and windows in range and out of it.
 
+use super::windows::any_windows;
 use crate::generate::beyond::beyond;
+use crate::library::machine::Setup;
 use crate::paper::machine::{configuration, Settings, SIZES};
+use crate::paper::windows::{Windows, FRAME_WINDOWS, SECONDS_WINDOWS};
 use crate::random::Random;
 
 /// A way to be out of range.
@@ -14,10 +17,19 @@ pub enum SettingsFault {
     SourceBeyond48Bits,
     RequiredBit0,
     RequiredAboveBit4,
+    FrameWindowTooShort,
+    FrameWindowTooLong,
+    FrameThreshold0,
+    FrameThresholdBeyond32Bits,
+    SecondsWindowTooShort,
+    SecondsWindowTooLong,
+    SecondsWindowNoMultiple,
+    SecondsThreshold0,
+    SecondsThresholdBeyond16Bits,
 }
 
 impl SettingsFault {
-    pub const ALL: [SettingsFault; 7] = [
+    pub const ALL: [SettingsFault; 16] = [
         SettingsFault::ConfigurationAboveBit4,
         SettingsFault::SizeTooSmall,
         SettingsFault::SizeTooLarge,
@@ -25,9 +37,23 @@ impl SettingsFault {
         SettingsFault::SourceBeyond48Bits,
         SettingsFault::RequiredBit0,
         SettingsFault::RequiredAboveBit4,
+        SettingsFault::FrameWindowTooShort,
+        SettingsFault::FrameWindowTooLong,
+        SettingsFault::FrameThreshold0,
+        SettingsFault::FrameThresholdBeyond32Bits,
+        SettingsFault::SecondsWindowTooShort,
+        SettingsFault::SecondsWindowTooLong,
+        SettingsFault::SecondsWindowNoMultiple,
+        SettingsFault::SecondsThreshold0,
+        SettingsFault::SecondsThresholdBeyond16Bits,
     ];
 
-    fn befall(self, random: &mut Random, settings: &mut Settings) {
+    fn befall(self, random: &mut Random, setup: &mut Setup) {
+        self.befall_settings(random, &mut setup.settings);
+        self.befall_windows(random, &mut setup.windows);
+    }
+
+    fn befall_settings(self, random: &mut Random, settings: &mut Settings) {
         let (least, most) = (usize::from(*SIZES.start()), usize::from(*SIZES.end()));
         match self {
             SettingsFault::ConfigurationAboveBit4 => {
@@ -45,18 +71,66 @@ impl SettingsFault {
             SettingsFault::SourceBeyond48Bits => settings.source = beyond(random, 48, 64),
             SettingsFault::RequiredBit0 => settings.required |= 1,
             SettingsFault::RequiredAboveBit4 => settings.required |= 1 << random.between(5, 7),
+            _ => {}
+        }
+    }
+
+    fn befall_windows(self, random: &mut Random, windows: &mut Windows) {
+        match self {
+            SettingsFault::FrameWindowTooShort => {
+                let any = random.below(10) as u64;
+                windows.frame_window = random.pick(&[9, 0, any]);
+            }
+            SettingsFault::FrameWindowTooLong => {
+                let beyond = wrapping_to(random, windows.frame_window);
+                windows.frame_window = random.pick(&[FRAME_WINDOWS.end() + 1, beyond]);
+            }
+            SettingsFault::FrameThreshold0 => windows.frame_threshold = 0,
+            SettingsFault::FrameThresholdBeyond32Bits => {
+                windows.frame_threshold = beyond(random, 32, 64);
+            }
+            SettingsFault::SecondsWindowTooShort => {
+                let any = 10 * random.below(10) as u64;
+                windows.seconds_window = random.pick(&[90, 0, any]);
+            }
+            SettingsFault::SecondsWindowTooLong => {
+                let beyond = wrapping_to(random, windows.seconds_window);
+                windows.seconds_window = random.pick(&[SECONDS_WINDOWS.end() + 10, beyond]);
+            }
+            SettingsFault::SecondsWindowNoMultiple => {
+                let any = windows.seconds_window - random.between(1, 9) as u64;
+                windows.seconds_window = random.pick(&[105, any.max(101)]);
+            }
+            SettingsFault::SecondsThreshold0 => windows.seconds_threshold = 0,
+            SettingsFault::SecondsThresholdBeyond16Bits => {
+                windows.seconds_threshold = beyond(random, 16, 64);
+            }
+            _ => {}
         }
     }
 }
 
-/// Settings, every other one out of range for the reason given.
-pub fn any_settings(random: &mut Random) -> (Settings, Option<SettingsFault>) {
-    let mut settings = good_settings(random);
+/// A number that is beyond every window, though its lowest bits may be one.
+fn wrapping_to(random: &mut Random, window: u64) -> u64 {
+    let above = random.pick(&[1 << 16, 1 << 32, 1 << 63]);
+    random.pick(&[above | window, above, u64::MAX])
+}
+
+/// What a fresh end is given, every other time out of range for the reason told.
+pub fn any_setup(random: &mut Random) -> (Setup, Option<SettingsFault>) {
+    let mut setup = good_setup(random);
     let fault = random.one_in(2).then(|| random.pick(&SettingsFault::ALL));
     if let Some(fault) = fault {
-        fault.befall(random, &mut settings);
+        fault.befall(random, &mut setup);
     }
-    (settings, fault)
+    (setup, fault)
+}
+
+fn good_setup(random: &mut Random) -> Setup {
+    Setup {
+        settings: good_settings(random),
+        windows: any_windows(random),
+    }
 }
 
 /// Settings in range: mostly of an active end that can loop and be asked.
@@ -97,19 +171,19 @@ fn size(random: &mut Random) -> u16 {
     size as u16
 }
 
-/// The settings of two ends that mostly satisfy each other and can loop; now and
+/// What two ends are given that mostly satisfy each other and can loop; now and
 /// then their addresses are equal.
-pub fn paired_settings(random: &mut Random) -> [Settings; 2] {
-    let mut pair = [good_settings(random), good_settings(random)];
+pub fn paired_setups(random: &mut Random) -> [Setup; 2] {
+    let mut pair = [good_setup(random), good_setup(random)];
     if !random.one_in(8) {
-        for settings in &mut pair {
+        for Setup { settings, .. } in &mut pair {
             settings.required = 0;
             settings.configuration |= configuration::LOOPBACK;
         }
-        pair[random.below(2)].configuration |= configuration::ACTIVE;
+        pair[random.below(2)].settings.configuration |= configuration::ACTIVE;
     }
     if random.one_in(8) {
-        pair[0].source = pair[1].source;
+        pair[0].settings.source = pair[1].settings.source;
     }
     pair
 }

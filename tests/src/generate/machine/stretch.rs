@@ -1,7 +1,7 @@
 //! Scripts of the limit: ten frames, some ticks and a request, for each number of
 //! ticks to beyond the stretch and for each phase at which the ten are written.
 
-use super::directed::{reported, settings, with_room, Directed};
+use super::directed::{reported, settings, with_room, Uncounted};
 use super::wraps::{local, received, COMPLETE};
 use crate::library::machine::{Call, Turn};
 use crate::paper::machine::{configuration, Report, MOST_FRAMES, SECOND, STRETCH};
@@ -11,7 +11,7 @@ const ACTIVE: u8 = configuration::ACTIVE;
 /// Sends with the link down too.
 const UNIDIRECTIONAL: u8 = ACTIVE | configuration::UNIDIRECTIONAL;
 
-pub fn stretch_scripts() -> Vec<Directed> {
+pub fn stretch_scripts() -> Vec<Uncounted> {
     let phases = 0..usize::from(SECOND);
     let each = |phase| (1..=STRETCH + 1).flat_map(move |ticks| scripts(phase, ticks));
     phases.flat_map(each).collect()
@@ -19,14 +19,14 @@ pub fn stretch_scripts() -> Vec<Directed> {
 
 /// So many ticks behind the ten frames in every way: the link up, each but for a
 /// refused one before it, and the link down at the first or at the last of them.
-fn scripts(phase: usize, ticks: usize) -> Vec<Directed> {
+fn scripts(phase: usize, ticks: usize) -> Vec<Uncounted> {
     let (more, fewer) = (ticks.div_ceil(2), ticks / 2);
-    let refused = vec![vec![refused_tick(), Turn::with_room(Call::Tick)]; ticks];
-    let at_first = [down_for(more), vec![Call::Tick; fewer]];
-    let at_last = [vec![Call::Tick; fewer], down_for(more)];
+    let refused = vec![vec![refused_tick(), Turn::with_room(Call::Tick(0))]; ticks];
+    let at_first = [down_for(more), vec![Call::Tick(0); fewer]];
+    let at_last = [vec![Call::Tick(0); fewer], down_for(more)];
     let [at_first, at_last] = [at_first, at_last].map(|calls| with_room(calls.concat()));
     let ways = [
-        (ACTIVE, with_room(vec![Call::Tick; ticks])),
+        (ACTIVE, with_room(vec![Call::Tick(0); ticks])),
         (ACTIVE, refused.concat()),
         (ACTIVE, at_first.clone()),
         (ACTIVE, at_last.clone()),
@@ -47,7 +47,7 @@ fn scripts(phase: usize, ticks: usize) -> Vec<Directed> {
 /// Ten frames in one interval, so many ticks from fresh: those of coming up, and
 /// requests until one of them is too many.
 fn ten_frames(phase: usize) -> Vec<Call> {
-    let mut calls = vec![Call::Tick; phase];
+    let mut calls = vec![Call::Tick(0); phase];
     calls.extend(coming_up());
     calls.extend(vec![request(); usize::from(MOST_FRAMES) - 1]);
     calls
@@ -61,7 +61,7 @@ fn coming_up() -> [Call; 2] {
 /// Ticks with the link down, which then comes up.
 fn down_for(ticks: usize) -> Vec<Call> {
     let mut calls = vec![reported(Report::LinkDown)];
-    calls.extend(vec![Call::Tick; ticks]);
+    calls.extend(vec![Call::Tick(0); ticks]);
     calls.extend(coming_up());
     calls
 }
@@ -70,7 +70,7 @@ fn down_for(ticks: usize) -> Vec<Call> {
 fn refused_tick() -> Turn {
     Turn {
         out: SHORTEST - 1,
-        ..Turn::with_room(Call::Tick)
+        ..Turn::with_room(Call::Tick(0))
     }
 }
 

@@ -4,6 +4,7 @@ use super::stretch::stretch_scripts;
 use super::*;
 use crate::library::machine::Call;
 use crate::paper::machine::{Discovery, End, Role, Settings, MOST_FRAMES};
+use crate::paper::windows::Windows;
 use crate::paper::{answer, LONGEST};
 use crate::random::Random;
 use std::collections::BTreeSet;
@@ -13,11 +14,43 @@ fn settings_are_out_of_range_for_each_reason() {
     let mut random = Random::new(1);
     let mut faults = BTreeSet::new();
     for _ in 0..2_000 {
-        let (settings, fault) = any_settings(&mut random);
-        assert_eq!(settings.are_in_range(), fault.is_none(), "{settings:?}");
+        let (setup, fault) = any_setup(&mut random);
+        let in_range = setup.settings.are_in_range() && setup.windows.are_in_range();
+        assert_eq!(in_range, fault.is_none(), "{setup:?}");
         faults.extend(fault);
     }
     assert_eq!(faults.len(), SettingsFault::ALL.len());
+}
+
+/// The windows and thresholds that are named in change request (iii).
+#[test]
+fn windows_of_every_sort_are_in_range_and_at_its_ends() {
+    let windows = windows_of_every_sort(&mut Random::new(5), 200);
+    assert!(windows.iter().all(|windows| windows.are_in_range()));
+    let has = |wanted: fn(&Windows) -> u64, number: u64| {
+        let with = windows.iter().filter(|windows| wanted(windows) == number);
+        assert!(with.count() > 10, "{number}");
+    };
+    has(|windows| windows.frame_window, 10);
+    has(|windows| windows.frame_window, 600);
+    has(|windows| windows.frame_threshold, 1);
+    has(|windows| windows.frame_threshold, u32::MAX.into());
+    has(|windows| windows.seconds_window, 100);
+    has(|windows| windows.seconds_window, 110);
+    has(|windows| windows.seconds_window, 9_000);
+    has(|windows| windows.seconds_threshold, 1);
+    has(|windows| windows.seconds_threshold, u16::MAX.into());
+}
+
+#[test]
+fn counts_are_mostly_none_and_now_and_then_too_many() {
+    let (mut random, mut counts) = (Random::new(7), Counts::default());
+    let drawn: Vec<u64> = (0..20_000).map(|_| counts.next(&mut random)).collect();
+    let none = drawn.iter().filter(|&&count| count == 0).count();
+    assert!((10_000..19_000).contains(&none), "{none}");
+    for count in [1, 19, u32::MAX.into(), 1 << 32, u64::MAX] {
+        assert!(drawn.contains(&count), "{count}");
+    }
 }
 
 /// Makes a call with room enough.
@@ -82,7 +115,7 @@ fn faults_of(call: &Call) -> Vec<ResponseFault> {
 fn in_send_any() -> End {
     let settings = Settings {
         configuration: 0x1D,
-        ..WRAPPING
+        ..WRAPPING.settings
     };
     let mut end = End::fresh(&settings).expect("in range");
     for call in wrapping_start() {
@@ -117,7 +150,7 @@ fn many_responses_just_fit_or_just_do_not() {
 
 #[test]
 fn the_long_script_passes_65535() {
-    let mut end = End::fresh(&WRAPPING).expect("in range");
+    let mut end = End::fresh(&WRAPPING.settings).expect("in range");
     for call in wrapping_start() {
         stepped(&mut end, &call);
     }
@@ -143,7 +176,7 @@ fn the_scripts_of_the_limit_are_of_every_phase_and_every_number_of_ticks() {
         let (mut phase, mut ticks, mut last) = (None, 0, None);
         for turn in turns {
             let step = turn.call.step(&end, &mut vec![0; turn.out]);
-            ticks += usize::from(turn.call == Call::Tick && step.is_ok());
+            ticks += usize::from(turn.call.is_tick() && step.is_ok());
             last = step.err();
             end = step.map_or(end, |step| step.end);
             if end.intervals[0] == MOST_FRAMES {

@@ -1,18 +1,28 @@
-//! One long script in which the revision and the event number pass 65,535.
+//! One long script in which the revision, the event number and the timestamp pass
+//! 65,535.
 
 use crate::generate::encode;
-use crate::library::machine::Call;
+use crate::library::machine::{Call, Setup};
 use crate::paper::machine::{configuration, Report, Settings, MOST_FRAMES, STRETCH};
+use crate::paper::windows::Windows;
 use crate::paper::{Body, Information, Message, Part};
 
-/// The settings of its end, and of its peer.
-pub const WRAPPING: Settings = Settings {
-    configuration: configuration::ACTIVE | configuration::LOOPBACK,
-    size: 1518,
-    oui: 0x00_1B21,
-    vendor: 0,
-    source: 0x0200_0000_0001,
-    required: 0,
+/// What its end is given; its peer has the same settings.
+pub const WRAPPING: Setup = Setup {
+    settings: Settings {
+        configuration: configuration::ACTIVE | configuration::LOOPBACK,
+        size: 1518,
+        oui: 0x00_1B21,
+        vendor: 0,
+        source: 0x0200_0000_0001,
+        required: 0,
+    },
+    windows: Windows {
+        frame_window: 100,
+        frame_threshold: 3,
+        seconds_window: 200,
+        seconds_threshold: 2,
+    },
 };
 
 /// Its rounds: in each of them all notifications are written and all commands obeyed.
@@ -44,7 +54,7 @@ pub fn wrapping_round() -> Vec<Call> {
 
 /// Ticks after which no frame counts that was written before them.
 pub fn stretch_of_ticks() -> Vec<Call> {
-    vec![Call::Tick; STRETCH]
+    vec![Call::Tick(0); STRETCH]
 }
 
 /// The flags of a peer whose discovery is complete.
@@ -56,8 +66,8 @@ pub fn local() -> Body<'static> {
         version: 1,
         revision: 0,
         state: 0,
-        configuration: WRAPPING.configuration,
-        pdu_configuration: WRAPPING.size,
+        configuration: WRAPPING.settings.configuration,
+        pdu_configuration: WRAPPING.settings.size,
         oui: [0; 3],
         vendor: [0; 4],
     })])

@@ -1,8 +1,9 @@
 //! The archive's link machine, called as a C program would.
 
-use super::{Call, Machine, Response};
+use super::{Call, Machine, Response, Setup};
 use crate::library::Archive;
 use crate::paper::machine::Settings;
+use crate::paper::windows::Windows;
 
 // A slice passes as a pointer and a number of elements.
 extern "C" {
@@ -13,11 +14,23 @@ extern "C" {
         vendor: u32,
         source: u64,
         required: u8,
+        frame_window: u64,
+        frame_threshold: u64,
+        seconds_window: u64,
+        seconds_threshold: u64,
         state: *mut u8,
         state_len: usize,
     ) -> u64;
 
-    fn oam_tick(state: *mut u8, state_len: usize, out: *mut u8, out_len: usize) -> u64;
+    fn oam_tick(
+        bad_frames: u64,
+        events: *mut u64,
+        events_len: usize,
+        state: *mut u8,
+        state_len: usize,
+        out: *mut u8,
+        out_len: usize,
+    ) -> u64;
 
     fn oam_report(
         report: u8,
@@ -95,7 +108,7 @@ extern "C" {
 
 impl Machine for Archive {
     #[inline(always)]
-    fn fresh(&self, settings: &Settings, state: &mut [u8]) -> u64 {
+    fn fresh(&self, setup: &Setup, state: &mut [u8]) -> u64 {
         let Settings {
             configuration,
             size,
@@ -103,7 +116,13 @@ impl Machine for Archive {
             vendor,
             source,
             required,
-        } = *settings;
+        } = setup.settings;
+        let Windows {
+            frame_window,
+            frame_threshold,
+            seconds_window,
+            seconds_threshold,
+        } = setup.windows;
         let (state, length) = (state.as_mut_ptr(), state.len());
         unsafe {
             oam_fresh(
@@ -113,6 +132,10 @@ impl Machine for Archive {
                 vendor,
                 source,
                 required,
+                frame_window,
+                frame_threshold,
+                seconds_window,
+                seconds_threshold,
                 state,
                 length,
             )
@@ -120,16 +143,16 @@ impl Machine for Archive {
     }
 
     #[inline(always)]
-    fn call(&self, call: &Call, header: &mut [u64], kept: &mut [u8], output: &mut [u8]) -> u64 {
+    fn call(&self, call: &Call, numbers: &mut [u64], kept: &mut [u8], output: &mut [u8]) -> u64 {
+        let (values, count) = (numbers.as_mut_ptr(), numbers.len());
         let (state, length) = (kept.as_mut_ptr(), kept.len());
         let (out, room) = (output.as_mut_ptr(), output.len());
         match call {
-            Call::Tick => unsafe { oam_tick(state, length, out, room) },
+            Call::Tick(bad) => unsafe { oam_tick(*bad, values, count, state, length, out, room) },
             Call::Report(report) => unsafe { oam_report(*report, state, length, out, room) },
             Call::Receive(frame) => unsafe {
                 let (frame, octets) = (frame.as_ptr(), frame.len());
-                let (header, values) = (header.as_mut_ptr(), header.len());
-                oam_receive(frame, octets, header, values, state, length, out, room)
+                oam_receive(frame, octets, values, count, state, length, out, room)
             },
             Call::Start => unsafe { oam_start(state, length, out, room) },
             Call::Stop => unsafe { oam_stop(state, length, out, room) },

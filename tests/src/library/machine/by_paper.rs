@@ -1,153 +1,75 @@
-//! The paper's machine in the archive's place, with its own packing of a state.
+//! The paper's machine in the archive's place: what the octets hold is taken out for
+//! each call, and put back.
 
-use super::{Call, Machine, RECEIVED, STATE_OCTETS};
-use crate::library::by_paper::{header_of, stored};
+use super::{Call, Machine, Setup, State};
 use crate::library::ByPaper;
-use crate::paper::machine::{Breach, End, Settings, Shown, Step, END_NUMBERS, PACKED_NUMBERS};
-use crate::paper::{answer, joined, read};
-
-/// The octets in which each number of an end is packed.
-const WIDTHS: [usize; PACKED_NUMBERS] = [
-    1, 2, 3, 4, 6, 1, // settings
-    1, 1, 1, // link up, lost-link count, kept field
-    1, 1, 2, 1, 1, 2, 3, 4, // the record
-    1, 2, // the last event number
-    1, 1, 6, 2, 2, // role, ticks, the intervals, revision, next event number
-    1, 1, 1, // dying gasp, critical event, owed
-];
+use crate::paper::answer;
 
 impl Machine for ByPaper {
-    fn fresh(&self, settings: &Settings, state: &mut [u8]) -> u64 {
-        match End::fresh(settings) {
-            Ok(end) if state.len() == STATE_OCTETS => {
-                state.copy_from_slice(&packed(&end));
+    fn fresh(&self, setup: &Setup, state: &mut [u8]) -> u64 {
+        match State::fresh(setup).map(|fresh| fresh.octets()) {
+            Ok(octets) if state.len() == octets.len() => {
+                state.copy_from_slice(&octets);
                 answer::ACCEPTED.into()
             }
             _ => answer::VALUES.into(),
         }
     }
 
-    fn call(&self, call: &Call, header: &mut [u64], state: &mut [u8], out: &mut [u8]) -> u64 {
-        match unpacked(state) {
-            Some(end) => called(end, call, header, state, out),
-            None => answer::VALUES.into(),
-        }
+    fn call(&self, call: &Call, numbers: &mut [u64], state: &mut [u8], out: &mut [u8]) -> u64 {
+        let Some(mut held) = State::from_octets(state) else {
+            return answer::VALUES.into();
+        };
+        let outcome = held.call(call, numbers, out);
+        state.copy_from_slice(&held.octets());
+        outcome
     }
 
     fn show(&self, state: &[u8], numbers: &mut [u64]) -> u64 {
-        shown(unpacked(state), numbers)
-    }
-}
-
-/// Makes a call of an end, and stores the next one.
-pub fn called(end: End, call: &Call, header: &mut [u64], state: &mut [u8], out: &mut [u8]) -> u64 {
-    let step = match call {
-        Call::Receive(_) if header.len() < RECEIVED => Err(answer::OUTPUT),
-        _ => call.step(&end, out),
-    };
-    match step {
-        Ok(step) => {
-            state.copy_from_slice(&packed(&step.end));
-            if let Call::Receive(frame) = call {
-                header[..RECEIVED].copy_from_slice(&received(frame, step.shown));
-            }
-            outcome(answer::ACCEPTED, &step)
+        match State::from_octets(state) {
+            Some(held) => held.show(numbers),
+            None => answer::VALUES.into(),
         }
-        Err(refusal) => outcome(refusal, &unmoved(end)),
     }
-}
-
-/// Stores the numbers of an end, if there is one.
-pub fn shown(end: Option<End>, numbers: &mut [u64]) -> u64 {
-    match (end, numbers.get_mut(..END_NUMBERS)) {
-        (None, _) => answer::VALUES.into(),
-        (Some(_), None) => answer::OUTPUT.into(),
-        (Some(end), Some(room)) => stored(Ok(end.numbers()), room),
-    }
-}
-
-fn unmoved(end: End) -> Step {
-    Step {
-        end,
-        length: 0,
-        shown: Shown::Nothing,
-    }
-}
-
-fn outcome(answer: u8, step: &Step) -> u64 {
-    let octet = step.end.role.octet();
-    u64::from(answer)
-        | (step.length as u64) << 8
-        | u64::from(octet) << 40
-        | (step.shown as u64) << 48
-}
-
-/// What an accepted frame stores.
-fn received(frame: &[u8], shown: Shown) -> [u64; RECEIVED] {
-    let message = read(frame).expect("an accepted frame");
-    let [source, flags, code, fixed] = header_of(&message);
-    let number = match shown {
-        Shown::Events => fixed,
-        Shown::Frame | Shown::Nothing => 0,
-    };
-    [source, flags, code, number]
-}
-
-/// The octets of an end's state.
-pub fn packed(end: &End) -> [u8; STATE_OCTETS] {
-    let mut state = [0; STATE_OCTETS];
-    let mut rest = &mut state[..];
-    for (number, width) in end.packed_numbers().into_iter().zip(WIDTHS) {
-        let (here, behind) = rest.split_at_mut(width);
-        here.copy_from_slice(&number.to_be_bytes()[8 - width..]);
-        rest = behind;
-    }
-    state
-}
-
-/// The end in a state's octets, if there is one that calls make.
-pub fn unpacked(state: &[u8]) -> Option<End> {
-    unpacked_with(state, &[])
-}
-
-/// The same, where an end may also break these rules.
-pub fn unpacked_with(state: &[u8], breaches: &[Breach]) -> Option<End> {
-    if state.len() != STATE_OCTETS {
-        return None;
-    }
-    let mut rest = state;
-    let numbers = WIDTHS.map(|width| {
-        let (here, behind) = rest.split_at(width);
-        rest = behind;
-        joined(here)
-    });
-    let allowed = |end: &End| end.breaches().iter().all(|b| breaches.contains(b));
-    End::at_rest(&numbers).filter(allowed)
 }
 
 #[cfg(test)]
 mod tests {
     use super::*;
+    use crate::library::machine::{ARISEN, SHOWN_NUMBERS, STATE_OCTETS};
+    use crate::paper::machine::{Breach, Settings, END_NUMBERS};
     use crate::paper::tests::{frame, LOCAL};
+    use crate::paper::windows::Windows;
 
-    const SETTINGS: Settings = Settings {
-        configuration: 0x0F,
-        size: 1518,
-        oui: 1,
-        vendor: 2,
-        source: 3,
-        required: 0,
+    const SETUP: Setup = Setup {
+        settings: Settings {
+            configuration: 0x0F,
+            size: 1518,
+            oui: 1,
+            vendor: 2,
+            source: 3,
+            required: 0,
+        },
+        windows: Windows {
+            frame_window: 10,
+            frame_threshold: 2,
+            seconds_window: 100,
+            seconds_threshold: 1,
+        },
     };
+    const TICK: Call = Call::Tick(0);
     const OLD: u64 = 0xEEEE;
+    /// The role Looping's State octet in an outcome.
+    const LOOPING: u64 = 5 << 40;
 
     fn fresh() -> [u8; STATE_OCTETS] {
         let mut state = [0xEE; STATE_OCTETS];
-        assert_eq!(ByPaper.fresh(&SETTINGS, &mut state), 0);
+        assert_eq!(ByPaper.fresh(&SETUP, &mut state), 0);
         state
     }
 
     fn call(call: &Call, state: &mut [u8], out: usize) -> u64 {
-        ByPaper.call(call, &mut [], state, &mut vec![0; out])
+        ByPaper.call(call, &mut [0; ARISEN], state, &mut vec![0; out])
     }
 
     /// A looping end, and its number of frames written.
@@ -162,43 +84,45 @@ mod tests {
         state
     }
 
+    fn packed_again(state: &[u8]) -> Option<[u8; STATE_OCTETS]> {
+        State::from_octets(state).map(|held| held.octets())
+    }
+
     #[test]
-    fn the_widths_fill_a_state() {
-        assert_eq!(WIDTHS.iter().sum::<usize>(), STATE_OCTETS);
+    fn a_state_is_packed_as_it_was() {
         let state = looping();
-        assert_eq!(unpacked(&state).map(|end| packed(&end)), Some(state));
+        assert_eq!(packed_again(&state), Some(state));
     }
 
     #[test]
     fn fresh_stores_a_state_or_nothing() {
         let mut longer = [0xEE; STATE_OCTETS + 1];
-        assert_eq!(ByPaper.fresh(&SETTINGS, &mut longer), 10);
-        assert_eq!(
-            ByPaper.fresh(&SETTINGS, &mut longer[..STATE_OCTETS - 1]),
-            10
-        );
-        let settings = Settings {
-            size: 63,
-            ..SETTINGS
-        };
-        assert_eq!(ByPaper.fresh(&settings, &mut longer[..STATE_OCTETS]), 10);
+        assert_eq!(ByPaper.fresh(&SETUP, &mut longer), 10);
+        assert_eq!(ByPaper.fresh(&SETUP, &mut longer[..STATE_OCTETS - 1]), 10);
+        let (mut small, mut short) = (SETUP, SETUP);
+        small.settings.size = 63;
+        short.windows.frame_window = 9;
+        for setup in [small, short] {
+            assert_eq!(ByPaper.fresh(&setup, &mut longer[..STATE_OCTETS]), 10);
+        }
         assert_eq!(longer, [0xEE; STATE_OCTETS + 1]);
-        let mut numbers = [OLD; END_NUMBERS + 1];
+        let mut numbers = [OLD; SHOWN_NUMBERS + 1];
         assert_eq!(ByPaper.show(&fresh(), &mut numbers), 0);
         let settings = [0x0F, 1518, 1, 2, 3, 0];
         assert_eq!(numbers[..6], settings);
         assert_eq!(numbers[6..END_NUMBERS], [0; END_NUMBERS - 6]);
-        assert_eq!(numbers[END_NUMBERS], OLD);
+        assert_eq!(numbers[END_NUMBERS..33], [10, 2, 100, 1]);
+        assert_eq!(numbers[33..SHOWN_NUMBERS], [0; 10]);
+        assert_eq!(numbers[SHOWN_NUMBERS], OLD);
     }
 
     #[test]
     fn an_outcome_shows_the_octet_on_refusals_too() {
         let mut state = looping();
-        let octet = 5 << 40;
-        assert_eq!(call(&Call::Tick, &mut state, 59), octet | 9);
-        assert_eq!(call(&Call::Start, &mut state, 60), octet | 15);
-        assert_eq!(call(&Call::Request(vec![]), &mut state, 60), octet | 10);
-        assert_eq!(call(&Call::Report(2), &mut state, 60), octet | 60 << 8);
+        assert_eq!(call(&TICK, &mut state, 59), LOOPING | 9);
+        assert_eq!(call(&Call::Start, &mut state, 60), LOOPING | 15);
+        assert_eq!(call(&Call::Request(vec![]), &mut state, 60), LOOPING | 10);
+        assert_eq!(call(&Call::Report(2), &mut state, 60), LOOPING | 60 << 8);
         assert_eq!(state[40..46], [0, 0, 0, 0, 0, 4]); // the intervals
         assert_eq!(state[46..48], [0, 1]); // the revision
     }
@@ -208,23 +132,22 @@ mod tests {
     #[test]
     fn a_bad_state_is_its_number_alone_and_comes_first() {
         let mut state = looping();
-        let octet = 5 << 40;
-        assert_eq!(call(&Call::Report(6), &mut state, 0), octet | 10);
-        assert_eq!(call(&Call::Report(0), &mut state, 0), octet | 9);
+        assert_eq!(call(&Call::Report(6), &mut state, 0), LOOPING | 10);
+        assert_eq!(call(&Call::Report(0), &mut state, 0), LOOPING | 9);
         let received = Call::Receive(vec![]);
         let receive = |state: &mut [u8], header: usize, out: usize| {
             let header = &mut [OLD; 5][..header];
             ByPaper.call(&received, header, state, &mut vec![0; out])
         };
-        assert_eq!(receive(&mut state, 3, 60), octet | 9);
-        assert_eq!(receive(&mut state, 4, 59), octet | 9);
-        assert_eq!(receive(&mut state, 4, 60), octet | 1);
+        assert_eq!(receive(&mut state, 3, 60), LOOPING | 9);
+        assert_eq!(receive(&mut state, 4, 59), LOOPING | 9);
+        assert_eq!(receive(&mut state, 4, 60), LOOPING | 1);
         state[20] = 2; // neither held nor not
-        assert_eq!(call(&Call::Tick, &mut state, 60), 10);
+        assert_eq!(call(&TICK, &mut state, 60), 10);
         assert_eq!(call(&Call::Report(6), &mut state, 0), 10);
         assert_eq!(receive(&mut state, 3, 0), 10);
         assert_eq!(ByPaper.show(&state, &mut []), 10);
-        assert_eq!(ByPaper.show(&fresh(), &mut [0; END_NUMBERS - 1]), 9);
+        assert_eq!(ByPaper.show(&fresh(), &mut [0; SHOWN_NUMBERS - 1]), 9);
     }
 
     /// No calls make an end that loops without bit 2 of its own.
@@ -232,12 +155,12 @@ mod tests {
     fn an_end_that_no_calls_make_is_refused() {
         let mut state = looping();
         state[0] &= !4; // the configuration
-        assert_eq!(unpacked(&state), None);
-        assert_eq!(call(&Call::Tick, &mut state, 60), 10);
-        assert_eq!(ByPaper.show(&state, &mut [0; END_NUMBERS]), 10);
-        let loops = unpacked_with(&state, &[Breach::LoopingWithoutBit2]);
-        assert_eq!(loops.map(|end| packed(&end)), Some(state));
-        assert_eq!(unpacked_with(&state, &[Breach::EventWithoutRecord]), None);
+        assert_eq!(packed_again(&state), None);
+        assert_eq!(call(&TICK, &mut state, 60), 10);
+        assert_eq!(ByPaper.show(&state, &mut [0; SHOWN_NUMBERS]), 10);
+        let loops = State::from_octets_with(&state, &[Breach::LoopingWithoutBit2]);
+        assert_eq!(loops.map(|held| held.octets()), Some(state));
+        assert!(State::from_octets_with(&state, &[Breach::EventWithoutRecord]).is_none());
     }
 
     /// The octets 39 and 40 to 45 of a state: ticks, and eleven digits of four bits.
@@ -246,6 +169,7 @@ mod tests {
         let meter = |ticks: u8, intervals: u64| {
             let mut state = fresh();
             state[39] = ticks;
+            state[82] = ticks; // the seconds' window stands there too
             state[40..46].copy_from_slice(&intervals.to_be_bytes()[2..]);
             state
         };
@@ -256,12 +180,12 @@ mod tests {
             (9, 0x100_1111_1111, 9),
             (9, 0x600_0000_0004, 10),
         ] {
-            let mut numbers = [OLD; END_NUMBERS];
+            let mut numbers = [OLD; SHOWN_NUMBERS];
             let state = meter(ticks, intervals);
             assert_eq!(ByPaper.show(&state, &mut numbers), 0, "{intervals:x}");
             assert_eq!(numbers[20..22], [ticks.into(), written]);
             assert_eq!(numbers[28], intervals);
-            assert_eq!(unpacked(&state).map(|end| packed(&end)), Some(state));
+            assert_eq!(packed_again(&state), Some(state));
         }
         for (ticks, intervals) in [
             (10, 0),
@@ -276,11 +200,11 @@ mod tests {
         ] {
             let mut state = meter(ticks, intervals);
             assert_eq!(
-                ByPaper.show(&state, &mut [0; END_NUMBERS]),
+                ByPaper.show(&state, &mut [0; SHOWN_NUMBERS]),
                 10,
                 "{intervals:x}"
             );
-            assert_eq!(call(&Call::Tick, &mut state, 60), 10);
+            assert_eq!(call(&TICK, &mut state, 60), 10);
         }
     }
 

@@ -1,5 +1,6 @@
 //! The calls that step an end.
 
+use super::{ARISEN, RECEIVED};
 use crate::compare::hex;
 use crate::paper::answer;
 use crate::paper::machine::{End, Report, Step};
@@ -7,7 +8,8 @@ use std::fmt;
 
 #[derive(Clone, Debug, PartialEq, Eq)]
 pub enum Call {
-    Tick,
+    /// The bad frames since the last one.
+    Tick(u64),
     /// The report's number, 0 to 5.
     Report(u8),
     /// The frame.
@@ -52,7 +54,7 @@ impl Call {
 
     pub fn name(&self) -> &'static str {
         let place = match self {
-            Call::Tick => 0,
+            Call::Tick(_) => 0,
             Call::Report(_) => 1,
             Call::Receive(_) => 2,
             Call::Start => 3,
@@ -67,13 +69,27 @@ impl Call {
 
     /// Whether it is one of the client's six requests.
     pub fn is_request(&self) -> bool {
-        !matches!(self, Call::Tick | Call::Report(_) | Call::Receive(_))
+        !matches!(self, Call::Tick(_) | Call::Report(_) | Call::Receive(_))
     }
 
-    /// What the paper's machine makes of the call.
+    pub fn is_tick(&self) -> bool {
+        matches!(self, Call::Tick(_))
+    }
+
+    /// The numbers that must be lent to it: room for the events that a tick can make
+    /// arise, or for what an accepted frame stores.
+    pub fn least_numbers(&self) -> usize {
+        match self {
+            Call::Tick(_) => ARISEN,
+            Call::Receive(_) => RECEIVED,
+            _ => 0,
+        }
+    }
+
+    /// What the paper's end makes of the call.
     pub fn step(&self, end: &End, out: &mut [u8]) -> Result<Step, u8> {
         match self {
-            Call::Tick => end.tick(out),
+            Call::Tick(_) => end.tick(out),
             Call::Report(number) => match Report::ALL.get(usize::from(*number)) {
                 Some(report) => end.report(*report, out),
                 None => Err(answer::VALUES),
@@ -99,7 +115,8 @@ impl fmt::Display for Call {
     fn fmt(&self, text: &mut fmt::Formatter) -> fmt::Result {
         text.write_str(self.name())?;
         match self {
-            Call::Tick | Call::Start | Call::Stop => Ok(()),
+            Call::Start | Call::Stop | Call::Tick(0) => Ok(()),
+            Call::Tick(count) => write!(text, " {count} bad frames"),
             Call::Report(number) => match Report::ALL.get(usize::from(*number)) {
                 Some(report) => write!(text, " {report:?}"),
                 None => write!(text, " {number}"),

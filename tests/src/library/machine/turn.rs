@@ -1,6 +1,6 @@
 //! A call as it is made.
 
-use super::{Call, RECEIVED};
+use super::Call;
 use crate::paper::LONGEST;
 use std::fmt;
 
@@ -8,7 +8,8 @@ use std::fmt;
 #[derive(Clone, Debug)]
 pub struct Turn {
     pub call: Call,
-    pub header: usize,
+    /// Numbers for what a tick or a received frame stores.
+    pub numbers: usize,
     pub out: usize,
 }
 
@@ -16,10 +17,15 @@ impl Turn {
     /// A call with room for everything.
     pub fn with_room(call: Call) -> Self {
         Turn {
+            numbers: call.least_numbers(),
             call,
-            header: RECEIVED,
             out: LONGEST,
         }
+    }
+
+    /// Whether fewer numbers are lent than the call must have.
+    pub fn is_short_of_numbers(&self) -> bool {
+        self.numbers < self.call.least_numbers()
     }
 }
 
@@ -27,7 +33,8 @@ impl fmt::Display for Turn {
     fn fmt(&self, text: &mut fmt::Formatter) -> fmt::Result {
         write!(text, "{}, lent {}", self.call, self.out)?;
         match self.call {
-            Call::Receive(_) => write!(text, ", header {}", self.header),
+            Call::Receive(_) => write!(text, ", header {}", self.numbers),
+            Call::Tick(_) => write!(text, ", events {}", self.numbers),
             _ => Ok(()),
         }
     }

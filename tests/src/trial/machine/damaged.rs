@@ -1,17 +1,20 @@
 //! Damaged states: each is refused, and nothing changes, or it is a state, and
 //! then behaves like the paper's machine at the numbers that it shows. The paper's
-//! own packing says which of the two must come. States of ends that no calls make
-//! are made on purpose.
+//! own packing says which of the two must come. States that no calls make are made
+//! on purpose.
 
 use super::bout::Bout;
 use super::lend;
 use super::played::Played;
-use super::unmade::Unmade;
+use super::unmade::{all_refuse, Unmade};
+use super::unwatched::Unwatched;
 use crate::compare::hex;
 use crate::generate::machine::Script;
-use crate::library::machine::{unpacked, Call, Machine, Turn, RECEIVED, STATE_OCTETS};
+use crate::library::machine::{
+    Call, Machine, State, Turn, ARISEN, END_OCTETS, SHOWN_NUMBERS, STATE_OCTETS,
+};
 use crate::paper::answer;
-use crate::paper::machine::{End, END_NUMBERS, MOST_FRAMES, SECOND, STRETCH};
+use crate::paper::machine::{End, MOST_FRAMES, SECOND, STRETCH};
 use crate::random::Random;
 use crate::trial::lent::Lent;
 use crate::trial::report::{Report, Tally};
@@ -24,6 +27,8 @@ const CALLS: usize = 12;
 pub const TICKS_AT: usize = 39;
 pub const INTERVALS_AT: Range<usize> = 40..46;
 pub const BIT_44: u8 = 1 << 4;
+/// Where the watch is packed.
+const WATCH_AT: Range<usize> = END_OCTETS..STATE_OCTETS;
 
 #[derive(Clone, Copy, Debug, PartialEq, Eq, PartialOrd, Ord)]
 enum Damage {
@@ -39,10 +44,17 @@ enum Damage {
     ElevenFrames,
     /// A bit above the eleven intervals.
     Bit44,
+    /// Bits or an octet of the watch.
+    WatchBits,
+    WatchOctet,
 }
 
 impl Damage {
-    const ALL: [Damage; 10] = [
+    fn is_of_watch(self) -> bool {
+        matches!(self, Damage::WatchBits | Damage::WatchOctet)
+    }
+
+    const ALL: [Damage; 12] = [
         Damage::OtherLength,
         Damage::Bits,
         Damage::Octet,
@@ -53,6 +65,8 @@ impl Damage {
         Damage::TenFrames,
         Damage::ElevenFrames,
         Damage::Bit44,
+        Damage::WatchBits,
+        Damage::WatchOctet,
     ];
 
     fn befall(self, random: &mut Random, state: &mut Vec<u8>) {
@@ -63,11 +77,7 @@ impl Damage {
                 let other = random.pick(&[0, length - 1, length + 1, any]);
                 state.resize(if other == length { 0 } else { other }, 0);
             }
-            Damage::Bits => {
-                for _ in 0..random.between(1, 3) {
-                    state[random.below(length)] ^= 1 << random.below(8);
-                }
-            }
+            Damage::Bits => flip_bits(random, state),
             Damage::Octet => state[random.below(length)] = random.octet(),
             Damage::AllOctets => *state = random.octets(length),
             Damage::Zeros => state.fill(0),
@@ -80,7 +90,17 @@ impl Damage {
                 state[INTERVALS_AT].copy_from_slice(&intervals_of(random, MOST_FRAMES + 1));
             }
             Damage::Bit44 => state[INTERVALS_AT.start] |= BIT_44,
+            Damage::WatchBits => flip_bits(random, &mut state[WATCH_AT]),
+            Damage::WatchOctet => {
+                state[WATCH_AT][random.below(WATCH_AT.len())] = random.octet();
+            }
         }
+    }
+}
+
+fn flip_bits(random: &mut Random, octets: &mut [u8]) {
+    for _ in 0..random.between(1, 3) {
+        octets[random.below(octets.len())] ^= 1 << random.below(8);
     }
 }
 
@@ -98,19 +118,27 @@ pub struct Damaged {
     refused: Tally<&'static str>,
     calls: usize,
     unmade: Unmade,
+    unwatched: Unwatched,
 }
 
 impl Damaged {
     pub fn new() -> Self {
         let refusable = |damage: &Damage| *damage != Damage::TenFrames;
         let refused = Damage::ALL.into_iter().filter(refusable);
-        let taken = [Damage::Bits, Damage::Octet, Damage::TenFrames];
+        let taken = [
+            Damage::Bits,
+            Damage::Octet,
+            Damage::TenFrames,
+            Damage::WatchBits,
+            Damage::WatchOctet,
+        ];
         let taken = taken.map(|damage| (damage, true));
         Damaged {
             states: Tally::expecting(refused.map(|damage| (damage, false)).chain(taken)),
             refused: Tally::expecting(Call::NAMES),
             calls: 0,
             unmade: Unmade::new(),
+            unwatched: Unwatched::new(),
         }
     }
 
@@ -133,17 +161,21 @@ impl Damaged {
             };
             let shown = shown(library, random, &state).map_err(told)?;
             self.states.count((damage, shown.is_some()));
-            if unpacked(&octets).is_some() != shown.is_some() {
+            if State::from_octets(&octets).is_some() != shown.is_some() {
                 let does = if shown.is_some() { "takes" } else { "refuses" };
                 return Err(told(format!("oam_show {does} it, and the paper does not")));
             }
             match shown {
+                None if damage.is_of_watch() => {
+                    all_refuse(library, random, &state, &mut self.refused)
+                }
                 None => self.refuse(library, random, script, state, &played.end()),
-                Some(end) => self.play(library, random, script, state, &end),
+                Some(paper) => self.play(library, random, script, state, paper),
             }
             .map_err(told)?;
         }
-        self.unmade.try_one(random, played)
+        self.unmade.try_one(random, played)?;
+        self.unwatched.try_some(random, played)
     }
 
     /// A call of a state that is none.
@@ -158,25 +190,26 @@ impl Damaged {
         let call = script.call(random, end);
         self.refused.count(call.name());
         let (mut turn, _) = lend(random, call, end);
-        turn.header = random.below(2 * RECEIVED);
+        turn.numbers = random.below(2 * ARISEN);
         refuses(library, random, &turn, &state)
     }
 
-    /// Calls of a state that shows this end.
+    /// Calls of a state that shows this one.
     fn play(
         &mut self,
         library: &dyn Machine,
         random: &mut Random,
         script: &mut Script,
         state: Lent<u8>,
-        end: &End,
+        paper: State,
     ) -> Result<(), String> {
-        let mut bout = Bout::at(library, state, end);
+        let mut bout = Bout::at(library, state, paper);
         for _ in 0..CALLS {
             let end = bout.end();
             let call = script.call(random, &end);
             let (turn, _) = lend(random, call, &end);
-            let told = |difference| format!("of {:?}\n  {difference}", end.numbers());
+            let numbers = bout.paper().numbers();
+            let told = |difference| format!("of {numbers:?}\n  {difference}");
             bout.turn(random, &turn).map_err(told)?;
             self.calls += 1;
         }
@@ -193,6 +226,7 @@ impl Damaged {
         });
         report.count(self.calls, "calls of those that still were states");
         self.unmade.report(report);
+        self.unwatched.report(report);
     }
 }
 
@@ -203,18 +237,18 @@ pub fn refuses(
     turn: &Turn,
     state: &Lent<u8>,
 ) -> Result<(), String> {
-    let header = Lent::numbers(random, turn.header);
+    let numbers = Lent::numbers(random, turn.numbers);
     let out = Lent::octets(random, turn.out);
-    let (mut found_state, mut found_header, mut found_out) =
-        (state.clone(), header.clone(), out.clone());
+    let (mut found_state, mut found_numbers, mut found_out) =
+        (state.clone(), numbers.clone(), out.clone());
     let outcome = library.call(
         &turn.call,
-        found_header.slice_mut(),
+        found_numbers.slice_mut(),
         found_state.slice_mut(),
         found_out.slice_mut(),
     );
     let kept = state.stray(&found_state).is_none()
-        && header.stray(&found_header).is_none()
+        && numbers.stray(&found_numbers).is_none()
         && out.stray(&found_out).is_none();
     match (outcome == answer::VALUES.into(), kept) {
         (true, true) => Ok(()),
@@ -223,18 +257,18 @@ pub fn refuses(
     }
 }
 
-/// The end that a state shows; nothing where it is refused.
+/// What a state shows; nothing where it is refused.
 pub fn shown(
     library: &dyn Machine,
     random: &mut Random,
     state: &Lent<u8>,
-) -> Result<Option<End>, String> {
-    let before = Lent::numbers(random, END_NUMBERS);
+) -> Result<Option<State>, String> {
+    let before = Lent::numbers(random, SHOWN_NUMBERS);
     let mut numbers = before.clone();
     match library.show(state.slice(), numbers.slice_mut()) {
         0 if state.len() == STATE_OCTETS => {
-            let shown = numbers.slice().first_chunk().and_then(End::from_numbers);
-            let told = || format!("no end has the numbers {:?}", numbers.slice());
+            let shown = numbers.slice().first_chunk().and_then(State::from_numbers);
+            let told = || format!("no state has the numbers {:?}", numbers.slice());
             shown.map(Some).ok_or_else(told)
         }
         10 if before.stray(&numbers).is_none() => Ok(None),

@@ -1,13 +1,12 @@
 //! What differs between two calls, in words.
 
-use crate::library::machine::{Call, Outcome};
-use crate::paper::machine::END_NUMBERS;
+use crate::library::machine::{Call, Outcome, SHOWN_NUMBERS};
 use crate::trial::contest::place_told;
 use crate::trial::lent::Lent;
 use std::fmt::{Display, LowerHex};
 
-/// Names of an end's numbers.
-const NAMES: [&str; END_NUMBERS] = [
+/// Names of a state's numbers.
+const NAMES: [&str; SHOWN_NUMBERS] = [
     "configuration",
     "size",
     "OUI",
@@ -37,6 +36,20 @@ const NAMES: [&str; END_NUMBERS] = [
     "owed",
     "discovery",
     "intervals",
+    "frame window",
+    "frame threshold",
+    "seconds window",
+    "seconds threshold",
+    "ticks of the frame window",
+    "errors of the frame window",
+    "error total of frames",
+    "event total of frames",
+    "ticks of the seconds window",
+    "errors of the seconds window",
+    "error total of seconds",
+    "event total of seconds",
+    "timestamp",
+    "bad frame in this second",
 ];
 
 #[derive(Default)]

@@ -153,7 +153,7 @@ impl<'a> Seen<'a> {
         let (before, after) = (self.before, self.after);
         let was_any = before.discovery == Discovery::SendAny;
         let is_any = after.discovery == Discovery::SendAny;
-        let lost = *self.call == Call::Tick && after.lost_link < before.lost_link;
+        let lost = self.call.is_tick() && after.lost_link < before.lost_link;
         let left = was_any && !is_any;
         vec![
             (Happening::LinkLost, lost),

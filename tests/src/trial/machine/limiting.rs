@@ -87,7 +87,7 @@ impl Owing {
             (Limiting::DueWaits, seen.is_tenth_tick() && after.owed),
             (
                 Limiting::WaitingWrittenByTick,
-                self.waits && settled && *call == Call::Tick,
+                self.waits && settled && call.is_tick(),
             ),
             (
                 Limiting::WaitingDroppedByLinkDown,

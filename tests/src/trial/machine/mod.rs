@@ -1,14 +1,17 @@
 //! The link machine: scripts of calls, each made of a library and of the paper's
-//! machine, and damaged states.
+//! machine, damaged states, and long runs of ticks.
 
 mod bout;
 mod damaged;
 mod difference;
 mod happening;
 mod limiting;
+mod notifying;
 mod played;
 mod responding;
 mod unmade;
+mod unwatched;
+mod watching;
 
 #[cfg(test)]
 pub mod tests;
@@ -16,11 +19,12 @@ pub mod tests;
 use super::lent::Room;
 use super::report::{Report, Tally};
 use crate::generate::machine::{
-    any_settings, directed_scripts, wrapping_round, wrapping_start, Script, SettingsFault,
+    any_setup, directed_scripts, wrapping_round, wrapping_start, Counts, Script, SettingsFault,
     WRAPPING, WRAPPING_ROUNDS,
 };
-use crate::library::machine::{Call, Machine, Outcome, Turn, RECEIVED, STATE_OCTETS};
-use crate::paper::machine::{Discovery, End, Role, Settings};
+use crate::library::machine::{Call, Machine, Outcome, Setup, Turn, ARISEN, STATE_OCTETS};
+use crate::library::Library;
+use crate::paper::machine::{Discovery, End, Role};
 use crate::paper::{answer, LONGEST, SHORTEST};
 use crate::random::Random;
 use bout::Bout;
@@ -29,14 +33,16 @@ use happening::{Happening, Seen};
 use limiting::Limiting;
 use played::Played;
 use responding::Responding;
+use watching::Watching;
 
 /// The fewest and the most calls of a script.
 const SCRIPT_CALLS: (usize, usize) = (100, 400);
 
-/// Makes `calls` calls in scripts, those of some directed scripts, and some on
-/// damaged states. It ends with the first difference.
-pub fn machine(library: &dyn Machine, seed: u64, calls: usize) -> Report {
-    let mut trial = Trial::new(library, seed, calls);
+/// Makes `calls` calls in scripts, those of some directed scripts, some on damaged
+/// states, and twice as many ticks with windows of every sort. What arises there is
+/// read back and logged by `notes`. It ends with the first difference.
+pub fn machine(library: &dyn Machine, notes: &dyn Library, seed: u64, calls: usize) -> Report {
+    let mut trial = Trial::new(library, notes, seed, calls);
     let difference = trial.run(calls).err();
     trial.report(difference)
 }
@@ -59,10 +65,11 @@ struct Trial<'a> {
     busy: Tally<(&'static str, u8)>,
     responding: Responding,
     damaged: Damaged,
+    watching: Watching<'a>,
 }
 
 impl<'a> Trial<'a> {
-    fn new(library: &'a dyn Machine, seed: u64, calls: usize) -> Self {
+    fn new(library: &'a dyn Machine, notes: &'a dyn Library, seed: u64, calls: usize) -> Self {
         Trial {
             library,
             random: Random::new(seed),
@@ -79,6 +86,7 @@ impl<'a> Trial<'a> {
             busy: Tally::expecting(possible_busy()),
             responding: Responding::new(calls),
             damaged: Damaged::new(),
+            watching: Watching::new(library, notes, calls),
         }
     }
 
@@ -86,7 +94,8 @@ impl<'a> Trial<'a> {
         while self.calls < calls {
             self.script()?;
         }
-        self.directed_scripts()
+        self.directed_scripts()?;
+        self.watching.run(&mut self.random, calls)
     }
 
     /// A script from a fresh end on, and a damaged state of the end that it left.
@@ -94,7 +103,7 @@ impl<'a> Trial<'a> {
         let Some(mut played) = self.begin()? else {
             return Ok(());
         };
-        let mut script = Script::new(&mut self.random, played.settings());
+        let mut script = Script::new(&mut self.random, &played.end().settings);
         let (least, most) = SCRIPT_CALLS;
         let mut complete = false;
         for _ in 0..self.random.between(least, most) {
@@ -109,7 +118,7 @@ impl<'a> Trial<'a> {
 
     /// Fresh ends, if the settings are in range and the state has its length.
     fn begin(&mut self) -> Result<Option<Played<'a>>, String> {
-        let (settings, fault) = any_settings(&mut self.random);
+        let (setup, fault) = any_setup(&mut self.random);
         let length = match self.random.below(8) {
             0 => self.random.below(2 * STATE_OCTETS),
             _ => STATE_OCTETS,
@@ -118,33 +127,31 @@ impl<'a> Trial<'a> {
         if let Some(fault) = fault {
             self.settings_faults.count(fault);
         }
-        let bout = Bout::fresh(self.library, &mut self.random, &settings, length)?;
+        let bout = Bout::fresh(self.library, &mut self.random, &setup, length)?;
         self.fresh.count(match bout {
             Some(_) => answer::ACCEPTED,
             None => answer::VALUES,
         });
-        Ok(bout.map(|bout| Played::new(self.library, settings, bout)))
+        Ok(bout.map(|bout| Played::new(self.library, setup, bout)))
     }
 
     /// The scripts for what chance would hardly find, and the long one in which
-    /// the revision and the event number wrap.
+    /// the revision, the event number and the timestamp wrap.
     fn directed_scripts(&mut self) -> Result<(), String> {
-        for (settings, turns) in directed_scripts() {
-            self.directed(&settings, turns.into_iter())?;
+        for (setup, turns) in directed_scripts(&mut self.random) {
+            self.directed(&setup, turns.into_iter())?;
         }
         let rounds = (0..WRAPPING_ROUNDS).flat_map(|_| wrapping_round());
         let calls = wrapping_start().into_iter().chain(rounds);
-        self.directed(&WRAPPING, calls.map(Turn::with_room))
+        let (mut random, mut counts) = (self.random.clone(), Counts::default());
+        let turns = calls.map(|call| counts.on(&mut random, Turn::with_room(call)));
+        self.directed(&WRAPPING, turns)
     }
 
-    fn directed(
-        &mut self,
-        settings: &Settings,
-        turns: impl Iterator<Item = Turn>,
-    ) -> Result<(), String> {
-        let bout = Bout::fresh(self.library, &mut self.random, settings, STATE_OCTETS)?;
+    fn directed(&mut self, setup: &Setup, turns: impl Iterator<Item = Turn>) -> Result<(), String> {
+        let bout = Bout::fresh(self.library, &mut self.random, setup, STATE_OCTETS)?;
         let bout = bout.ok_or("the settings of a directed script are refused")?;
-        let mut played = Played::new(self.library, *settings, bout);
+        let mut played = Played::new(self.library, *setup, bout);
         for turn in turns {
             if let Call::Respond(_) = turn.call {
                 self.without_room(&mut played, &turn.call)?;
@@ -181,12 +188,12 @@ impl<'a> Trial<'a> {
     fn turn(&mut self, played: &mut Played, turn: Turn) -> Result<u8, String> {
         let before = played.end();
         let name = turn.call.name();
-        let short = name == "oam_receive" && turn.header < RECEIVED;
-        let outcome = Outcome::of(played.turn(&mut self.random, turn)?);
+        let short = turn.is_short_of_numbers();
+        let outcome = Outcome::of(played.turn(&mut self.random, turn)?.outcome);
         self.calls += 1;
         self.answers.count((name, outcome.answer));
         if outcome.answer != answer::ACCEPTED && before.role != Role::Idle {
-            let name = if short { SHORT_HEADER } else { name };
+            let name = if short { short_of_numbers(name) } else { name };
             self.busy.count((name, outcome.answer));
         }
         let after = played.end();
@@ -237,6 +244,7 @@ impl<'a> Trial<'a> {
         });
         self.responding.report(&mut report);
         self.damaged.report(&mut report);
+        self.watching.report(&mut report);
         report
     }
 }
@@ -250,13 +258,14 @@ fn lend(random: &mut Random, call: Call, end: &End) -> (Turn, Room) {
         1..=4 => Room::More,
         _ => Room::Exact,
     };
-    let header = match random.below(32) {
-        0 => random.below(RECEIVED),
-        1..=4 => random.between(RECEIVED + 1, 2 * RECEIVED),
-        _ => RECEIVED,
+    let least = call.least_numbers();
+    let numbers = match random.below(32) {
+        0 => random.below(least.max(1)),
+        1..=4 => random.between(least + 1, least + ARISEN),
+        _ => least,
     };
     let out = room.of(random, length);
-    (Turn { call, header, out }, room)
+    (Turn { call, numbers, out }, room)
 }
 
 /// A loopback command has 60 octets, which no maximum size forbids.
@@ -280,19 +289,25 @@ fn possible_answers() -> Vec<(&'static str, u8)> {
     Call::NAMES.into_iter().flat_map(each).collect()
 }
 
-/// A call whose header is too short, which only a received frame needs.
-const SHORT_HEADER: &str = "oam_receive, of a short header";
+/// A call that was lent too few numbers, of which only two need any.
+fn short_of_numbers(name: &str) -> &'static str {
+    match name {
+        "oam_tick" => "oam_tick, of too few events",
+        _ => "oam_receive, of a short header",
+    }
+}
 
 /// The answers that a role other than Idle leaves, which is in SEND_ANY.
 fn possible_busy() -> Vec<(&'static str, u8)> {
     let refusal =
         |(_, answer): &(&str, u8)| ![answer::ACCEPTED, answer::NOT_SEND_ANY].contains(answer);
     let mut possible: Vec<_> = possible_answers().into_iter().filter(refusal).collect();
-    possible.push((SHORT_HEADER, answer::OUTPUT));
+    let short = ["oam_tick", "oam_receive"].map(short_of_numbers);
+    possible.extend(short.map(|name| (name, answer::OUTPUT)));
     possible
 }
 
-/// Of enough room only a header too short is answered 9.
+/// Of enough room only too few numbers are answered 9.
 fn possible_rooms() -> Vec<(Room, bool)> {
     let each = |room| [(room, false), (room, true)];
     Room::ALL.into_iter().flat_map(each).collect()

@@ -9,16 +9,28 @@ use std::collections::BTreeSet;
 
 const SEED: u64 = 57;
 
+/// The trial of a machine; the paper's library reads and logs what arises.
+fn tried(library: &dyn Machine, calls: usize) -> Report {
+    machine(library, &ByPaper, SEED, calls)
+}
+
+/// Whether a machine with this slip differs.
+fn differs(slip: Slip, calls: usize) -> bool {
+    let report = tried(&Slipping::new(slip), calls);
+    let differs = |fault: &String| !fault.starts_with("never reached: ");
+    report.faults.iter().any(differs)
+}
+
 #[test]
 fn the_papers_machine_passes() {
-    let report = machine(&ByPaper, SEED, 200_000);
+    let report = tried(&ByPaper, 200_000);
     assert!(report.faults.is_empty(), "{:#?}", report.faults);
     assert!(!report.counts.is_empty());
 }
 
 #[test]
 fn too_few_calls_do_not_pass() {
-    let report = machine(&ByPaper, SEED, 1);
+    let report = tried(&ByPaper, 1);
     let missed = |fault: &String| fault.starts_with("never reached: ");
     assert!(!report.faults.is_empty() && report.faults.iter().all(missed));
 }
@@ -37,9 +49,7 @@ fn every_answer_of_the_machine_must_come() {
 #[test]
 fn each_slip_is_found() {
     for slip in Slip::ALL {
-        let report = machine(&Slipping::new(slip), SEED, 60_000);
-        let differs = |fault: &String| !fault.starts_with("never reached: ");
-        assert!(report.faults.iter().any(differs), "{slip:?}");
+        assert!(differs(slip, 60_000), "{slip:?}");
     }
 }
 
@@ -48,38 +58,55 @@ fn each_slip_is_found() {
 fn each_slip_in_the_limit_is_found_by_directed_scripts_alone() {
     assert_eq!(Slip::in_limit().count(), 8);
     for slip in Slip::in_limit() {
-        let report = machine(&Slipping::new(slip), SEED, 0);
-        let differs = |fault: &String| !fault.starts_with("never reached: ");
-        assert!(report.faults.iter().any(differs), "{slip:?}");
+        assert!(differs(slip, 0), "{slip:?}");
     }
+}
+
+/// The slips of change request (iii), each in the call that it is made in.
+#[test]
+fn each_slip_in_the_windows_is_found_by_directed_scripts_alone() {
+    assert_eq!(Slip::in_windows().count(), 19);
+    for slip in Slip::in_windows() {
+        let entry = match slip {
+            Slip::LinkUpBeginsWindowsAnew => "oam_report",
+            _ => "oam_tick",
+        };
+        assert_found_in(slip, 0, entry);
+    }
+}
+
+/// There is one difference, and it is told in a call of this entry.
+fn assert_found_in(slip: Slip, calls: usize, entry: &str) {
+    let report = tried(&Slipping::new(slip), calls);
+    let [fault] = &report.faults[..] else {
+        panic!("{slip:?}: {:#?}", report.faults);
+    };
+    let told = |before| fault.contains(&format!("{before}{entry}"));
+    assert!(
+        fault.starts_with(entry) || told("\n  "),
+        "{slip:?}: {fault}"
+    );
 }
 
 /// The slips of change request (i), each in the call that it is made in.
 #[test]
 fn each_slip_in_responses_is_found_in_one() {
     for slip in Slip::in_responses() {
-        let report = machine(&Slipping::new(slip), SEED, 60_000);
-        let [fault] = &report.faults[..] else {
-            panic!("{slip:?}: {:#?}", report.faults);
-        };
-        let told = fault.starts_with("oam_respond ") || fault.contains("\n  oam_respond ");
-        assert!(told, "{slip:?}: {fault}");
+        assert_found_in(slip, 60_000, "oam_respond");
     }
 }
 
 #[test]
 fn each_slip_in_responses_is_found_by_directed_scripts_alone() {
     for slip in Slip::in_responses() {
-        let report = machine(&Slipping::new(slip), SEED, 0);
-        let differs = |fault: &String| !fault.starts_with("never reached: ");
-        assert!(report.faults.iter().any(differs), "{slip:?}");
+        assert!(differs(slip, 0), "{slip:?}");
     }
 }
 
 /// A difference is told with the few calls that are needed for it.
 #[test]
 fn a_difference_is_told_with_its_script() {
-    let report = machine(&Slipping::new(Slip::LosesTheLinkAt51), SEED, 200_000);
+    let report = tried(&Slipping::new(Slip::LosesTheLinkAt51), 200_000);
     let [fault] = &report.faults[..] else {
         panic!("one difference ends the trial");
     };

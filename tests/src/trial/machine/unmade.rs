@@ -4,8 +4,9 @@
 use super::damaged::{refuses, shown};
 use super::played::Played;
 use crate::generate::any_frame;
-use crate::library::machine::{packed, unpacked_with, Call, Machine, Response, Turn, RECEIVED};
+use crate::library::machine::{packed, Call, Machine, Response, State, Turn, ARISEN, STATE_OCTETS};
 use crate::paper::machine::{configuration, Breach, End, Report as Reported, Role, COMPLETE};
+use crate::paper::windows::WatchNumbers;
 use crate::paper::{Information, LONGEST, NUMBERS};
 use crate::random::Random;
 use crate::trial::lent::Lent;
@@ -29,37 +30,19 @@ impl Unmade {
     /// Breaks each rule at the end that a script has left, where that is the only
     /// one broken.
     pub fn try_one(&mut self, random: &mut Random, played: &Played) -> Result<(), String> {
-        let end = played.end();
+        let (end, watch) = (played.end(), played.bout.paper().watch.numbers());
         for breach in Breach::ALL {
             let role = random.pick(roles(breach));
-            let (faulty, mended) = broken(random, &end, breach, role);
+            let (faulty, mended) = broken(random, (&end, &watch), breach, role);
             if faulty.breaches() == [breach] && mended.breaches().is_empty() {
                 let told = |fault| format!("of {breach:?}, {:?}\n  {fault}", faulty.numbers());
                 self.states.count((breach, role));
-                self.refuse(played.library(), random, &faulty)
-                    .and_then(|()| takes(played.library(), random, &mended))
+                let library = played.library();
+                let state = lent(random, &packed(&faulty, &watch));
+                all_refuse(library, random, &state, &mut self.calls)
+                    .and_then(|()| takes(library, random, &packed(&mended, &watch)))
                     .map_err(told)?;
             }
-        }
-        Ok(())
-    }
-
-    /// Every entry refuses the state, whatever else is wrong.
-    fn refuse(
-        &mut self,
-        library: &dyn Machine,
-        random: &mut Random,
-        faulty: &End,
-    ) -> Result<(), String> {
-        let state = lent(random, faulty);
-        if shown(library, random, &state)?.is_some() {
-            return Err(String::from("oam_show takes it"));
-        }
-        for call in calls(random) {
-            self.calls.count(call.name());
-            let header = random.below(2 * RECEIVED);
-            let out = random.pick(&[0, LONGEST]);
-            refuses(library, random, &Turn { call, header, out }, &state)?;
         }
         Ok(())
     }
@@ -74,6 +57,25 @@ impl Unmade {
     }
 }
 
+/// Every entry refuses a state, whatever else is wrong.
+pub fn all_refuse(
+    library: &dyn Machine,
+    random: &mut Random,
+    state: &Lent<u8>,
+    names: &mut Tally<&'static str>,
+) -> Result<(), String> {
+    if shown(library, random, state)?.is_some() {
+        return Err(String::from("oam_show takes it"));
+    }
+    for call in calls(random) {
+        names.count(call.name());
+        let numbers = random.below(2 * ARISEN);
+        let out = random.pick(&[0, LONGEST]);
+        refuses(library, random, &Turn { call, numbers, out }, state)?;
+    }
+    Ok(())
+}
+
 /// The roles with which a rule alone can be broken.
 fn roles(breach: Breach) -> &'static [Role] {
     match breach {
@@ -86,7 +88,12 @@ fn roles(breach: Breach) -> &'static [Role] {
 
 /// An end like this one that breaks a rule, and the same with that fault mended.
 /// Either may still break others.
-fn broken(random: &mut Random, end: &End, breach: Breach, role: Role) -> (End, End) {
+fn broken(
+    random: &mut Random,
+    (end, watch): (&End, &WatchNumbers),
+    breach: Breach,
+    role: Role,
+) -> (End, End) {
     let (mut faulty, mut mended) = (End { role, ..*end }, End { role, ..*end });
     match breach {
         Breach::RoleOutsideSendAny => mended.role = Role::Idle,
@@ -104,7 +111,7 @@ fn broken(random: &mut Random, end: &End, breach: Breach, role: Role) -> (End, E
             faulty.last_event = Some(random.value(2) as u16);
         }
     }
-    (at_rest(&faulty), at_rest(&mended))
+    (at_rest(&faulty, watch), at_rest(&mended, watch))
 }
 
 fn with_bit(faulty: &mut End, mended: &mut End, bit: u8) {
@@ -113,22 +120,27 @@ fn with_bit(faulty: &mut End, mended: &mut End, bit: u8) {
 }
 
 /// The end, its discovery where the moves take it.
-fn at_rest(end: &End) -> End {
-    unpacked_with(&packed(end), &Breach::ALL).expect("numbers in range")
+fn at_rest(end: &End, watch: &WatchNumbers) -> End {
+    let state = State::from_octets_with(&packed(end, watch), &Breach::ALL);
+    state.expect("numbers in range").end
 }
 
-fn lent(random: &mut Random, end: &End) -> Lent<u8> {
-    let octets = packed(end);
+/// A state with these octets.
+pub fn lent(random: &mut Random, octets: &[u8; STATE_OCTETS]) -> Lent<u8> {
     let mut state = Lent::octets(random, octets.len());
-    state.slice_mut().copy_from_slice(&octets);
+    state.slice_mut().copy_from_slice(octets);
     state
 }
 
 /// A state that calls may make is shown as it is.
-fn takes(library: &dyn Machine, random: &mut Random, end: &End) -> Result<(), String> {
-    let state = lent(random, end);
+pub fn takes(
+    library: &dyn Machine,
+    random: &mut Random,
+    octets: &[u8; STATE_OCTETS],
+) -> Result<(), String> {
+    let state = lent(random, octets);
     match shown(library, random, &state)? {
-        Some(found) if found == *end => Ok(()),
+        Some(found) if found.octets() == *octets => Ok(()),
         other => Err(format!("with the fault mended it is shown as {other:?}")),
     }
 }
@@ -136,7 +148,7 @@ fn takes(library: &dyn Machine, random: &mut Random, end: &End) -> Result<(), St
 /// A call of each entry, and a report that is none.
 fn calls(random: &mut Random) -> [Call; 10] {
     [
-        Call::Tick,
+        Call::Tick(1),
         Call::Report(Reported::LinkUp as u8),
         Call::Report(Reported::ALL.len() as u8),
         Call::Receive(any_frame(random).frame),

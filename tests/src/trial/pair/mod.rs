@@ -9,9 +9,9 @@ mod tests;
 
 use super::report::{Report, Tally};
 use crate::compare::last_lines;
-use crate::generate::machine::{any_request, paired_settings};
-use crate::library::machine::{Call, Machine, Turn, RECEIVED};
-use crate::paper::machine::{Report as LinkReport, Settings, LOST_LINK};
+use crate::generate::machine::{any_request, paired_setups, Counts};
+use crate::library::machine::{Call, Machine, Setup, Turn};
+use crate::paper::machine::{Report as LinkReport, LOST_LINK};
 use crate::paper::LONGEST;
 use crate::random::Random;
 use link::{Arrival, Link};
@@ -56,6 +56,8 @@ struct Pair<'a> {
     weather: Weather,
     /// Calls left in this weather.
     left: usize,
+    /// The bad frames of both ends' ticks.
+    counts: Counts,
     /// Who was called, and how.
     turns: Vec<(usize, Turn)>,
 }
@@ -86,8 +88,8 @@ impl Weather {
 
 impl Trial {
     fn script(&mut self, library: &dyn Machine) -> Result<(), String> {
-        let settings = paired_settings(&mut self.random);
-        let mut pair = Pair::fresh(library, settings)?;
+        let setups = paired_setups(&mut self.random);
+        let mut pair = Pair::fresh(library, setups)?;
         self.scripts += 1;
         let (least, most) = SCRIPT_CALLS;
         for _ in 0..self.random.between(least, most) {
@@ -159,8 +161,11 @@ impl Trial {
             0 => self.random.pick(&[0, 59]),
             _ => LONGEST,
         };
-        let header = RECEIVED;
-        let turn = Turn { call, header, out };
+        let turn = Turn {
+            out,
+            ..Turn::with_room(call)
+        };
+        let turn = pair.counts.on(&mut self.random, turn);
         pair.turns.push((side, turn.clone()));
         self.calls += 1;
         let end = &mut pair.sides[side];
@@ -185,13 +190,14 @@ impl Trial {
 }
 
 impl<'a> Pair<'a> {
-    fn fresh(library: &'a dyn Machine, settings: [Settings; 2]) -> Result<Self, String> {
-        let [one, other] = settings.map(|settings| Side::fresh(library, settings));
+    fn fresh(library: &'a dyn Machine, setups: [Setup; 2]) -> Result<Self, String> {
+        let [one, other] = setups.map(|setup| Side::fresh(library, setup));
         Ok(Pair {
             sides: [one?, other?],
             link: Link::default(),
             weather: Weather::Calm,
             left: 60,
+            counts: Counts::default(),
             turns: Vec::new(),
         })
     }
@@ -219,12 +225,12 @@ fn act(random: &mut Random, pair: &Pair, side: usize) -> Call {
         return Call::Report(LinkReport::LinkUp as u8);
     }
     match random.below(32) {
-        _ if silent && !random.one_in(16) => Call::Tick,
+        _ if silent && !random.one_in(16) => Call::Tick(0),
         0..=3 => Call::Start,
         4 | 5 => Call::Stop,
         6..=8 => any_request(random, pair.smaller_size()),
         9 => Call::Report(random.octet_between(2, 5)),
         10 if random.one_in(4) => Call::Report(random.octet_between(0, 1)),
-        _ => Call::Tick,
+        _ => Call::Tick(0),
     }
 }

@@ -2,9 +2,9 @@
 //! it, their outcomes, and the frames it wrote, as the paper's reader reads them.
 
 use super::link::Sent;
-use crate::library::machine::{Call, Machine, Outcome, Turn, STATE_OCTETS};
+use crate::library::machine::{Call, Machine, Outcome, Setup, Turn, SHOWN_NUMBERS, STATE_OCTETS};
 use crate::paper::machine::{
-    Discovery, Report, Role, Settings, COMPLETE, END_NUMBERS, LOST_LINK, MOST_FRAMES, STRETCH,
+    Discovery, Report, Role, Settings, COMPLETE, LOST_LINK, MOST_FRAMES, STRETCH,
 };
 use crate::paper::{answer, read, Body, LONGEST};
 use crate::trial::report::Tally;
@@ -68,12 +68,12 @@ impl Sight {
 }
 
 impl<'a> Side<'a> {
-    pub fn fresh(library: &'a dyn Machine, settings: Settings) -> Result<Self, String> {
+    pub fn fresh(library: &'a dyn Machine, setup: Setup) -> Result<Self, String> {
         let mut state = [0; STATE_OCTETS];
-        match library.fresh(&settings, &mut state) {
+        match library.fresh(&setup, &mut state) {
             0 => Ok(Side {
                 library,
-                settings,
+                settings: setup.settings,
                 state,
                 octet: Role::Idle.octet(),
                 in_send_any: false,
@@ -83,7 +83,7 @@ impl<'a> Side<'a> {
                 said_complete: false,
                 enabled: false,
             }),
-            other => Err(format!("oam_fresh {settings:x?} gives {other:#x}")),
+            other => Err(format!("oam_fresh {setup:x?} gives {other:#x}")),
         }
     }
 
@@ -99,10 +99,10 @@ impl<'a> Side<'a> {
         sights: &mut Tally<Sight>,
     ) -> Result<Option<Sent>, String> {
         let mut out = [0; LONGEST];
-        let (mut header, room) = ([0; 4], &mut out[..turn.out]);
+        let (mut numbers, room) = (vec![0; turn.numbers], &mut out[..turn.out]);
         let number = self
             .library
-            .call(&turn.call, &mut header, &mut self.state, room);
+            .call(&turn.call, &mut numbers, &mut self.state, room);
         let outcome = Outcome::of(number);
         let (was_any, was_looping) = (self.in_send_any, self.is_looping());
         self.octet = outcome.octet;
@@ -148,7 +148,7 @@ impl<'a> Side<'a> {
     /// Notes an accepted call.
     fn note(&mut self, call: &Call) {
         match call {
-            Call::Tick => {
+            Call::Tick(_) => {
                 self.silence = self.silence.map(|ticks| ticks + 1);
                 self.frames.push(0);
             }
@@ -192,7 +192,7 @@ impl<'a> Side<'a> {
         let (any, looping) = (self.in_send_any, self.is_looping());
         let accepted = matches!(call, Call::Receive(_));
         let report = matches!(call, Call::Report(_));
-        let (tick, ended) = (*call == Call::Tick, was_looping && !looping);
+        let (tick, ended) = (call.is_tick(), was_looping && !looping);
         let begun = looping && !was_looping;
         let silent = |ticks: u8| self.silence == Some(ticks.into());
         let full = self.written() == MOST_FRAMES;
@@ -280,7 +280,7 @@ impl<'a> Side<'a> {
     }
 
     /// The demand's limit, and the numbers that speak of it.
-    fn limits(&self, numbers: &[u64; END_NUMBERS]) -> [(&'static str, bool); 3] {
+    fn limits(&self, numbers: &[u64; SHOWN_NUMBERS]) -> [(&'static str, bool); 3] {
         let written = self.written();
         [
             (
@@ -298,8 +298,8 @@ impl<'a> Side<'a> {
         ]
     }
 
-    fn shown(&self) -> Result<[u64; END_NUMBERS], String> {
-        let mut numbers = [0; END_NUMBERS];
+    fn shown(&self) -> Result<[u64; SHOWN_NUMBERS], String> {
+        let mut numbers = [0; SHOWN_NUMBERS];
         match self.library.show(&self.state, &mut numbers) {
             0 => Ok(numbers),
             other => Err(format!("oam_show gives {other:#x}")),

@@ -44,10 +44,7 @@ fn each_slip_against_the_demand_is_found() {
             Slip::RefusedTickOpensAnInterval,
             "the intervals as they are shown",
         ),
-        (
-            Slip::LinkDownTicksOpenNone,
-            "the intervals as they are shown",
-        ),
+        (Slip::LinkDownTicksOpenNone, "the number of frames written"),
         (Slip::TenIntervals, "the number of frames written"),
         (
             Slip::TicksFrameInTheIntervalBefore,

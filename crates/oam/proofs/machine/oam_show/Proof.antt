@@ -12,7 +12,7 @@ returns-2 : tie.Need-returns-2
 returns-2 c = rw (sym (c .before .before .before .unpack .ensures) ∙ c .before .answer .given .1) untouched
 
 returns-3 : tie.Need-returns-3
-returns-3 c = rw (sym (c .before .before .before .before .before .before .before .before .unpack .ensures) ∙ c .before .before .before .before .before .before .e .given .1, le-ltb _ _ (c .before .before .before .before .if1 .left)) (c .before .before .show-end .ensures)
+returns-3 c = rw (sym (c .before .before .before .before .before .before .before .before .before .unpack .ensures) ∙ c .before .before .before .before .before .before .before .e .given .1, le-ltb _ _ (c .before .before .before .before .before .if1 .left), ← c .before .before .before .watch-in .ensures) (c .before .before .show-end .ensures)
 
 pub oam-show-spec : {M : Type 1} → statement M
-oam-show-spec = tie.close (tie.spec (λ c κs. search needs) (λ c. search needs) (λ c. search needs) (λ c. search needs) returns (λ c κs. search needs) returns-2 (λ c. search needs) returns-3)
+oam-show-spec = tie.close (tie.spec (λ c κs. search needs) (λ c. search needs) (λ c. search needs) (λ c. search needs) returns (λ c κs. search needs) (λ c κs. search needs) returns-2 (λ c. search needs) returns-3)

@@ -2,14 +2,15 @@
 
 mod limit;
 mod responding;
+mod windows;
 
 use crate::library::machine::{
-    called, packed, shown, unpacked_with, Call, Machine, Outcome, RECEIVED, STATE_OCTETS,
+    Call, Machine, Outcome, Setup, State, RECEIVED, SHOWN_NUMBERS, STATE_OCTETS,
 };
 use crate::library::ByPaper;
 use crate::paper::machine::{
-    configuration, Breach, Discovery, End, Report, Role, Settings, COMPLETE, END_NUMBERS,
-    LOST_LINK, MOST_FRAMES, SMALLEST_SIZE,
+    configuration, Breach, Discovery, End, Report, Role, COMPLETE, LOST_LINK, MOST_FRAMES,
+    SMALLEST_SIZE,
 };
 use crate::paper::{answer, check, code, joined, read, Body, Heading, SHORTEST};
 use std::cell::Cell;
@@ -71,6 +72,35 @@ pub enum Slip {
     UnknownReportHasNoOctet,
     HeaderBeforeState,
     OutputBeforeReport,
+    AboveThresholdOnly,
+    TotalNotGrown,
+    ItselfNotCounted,
+    SecondFromNextTick,
+    CutOneLess,
+    WindowOneLonger,
+    TotalsOfEventsOnly,
+    ErrorsThatWrap,
+    WindowsStopWithTheLinkDown,
+    RefusedTickTakesItsCount,
+    Type4First,
+    TimestampBeforeTheTick,
+    ErrorTotalsStop,
+    EventTotalsStop,
+    ThirteenNumbersTaken,
+    ClearsNumbersBehindEvents,
+    RefusalStoresEvents,
+    ArisenNotTold,
+    LinkUpBeginsWindowsAnew,
+    TakesWindow9,
+    TakesWindow601,
+    TakesWindow105,
+    TakesThreshold0,
+    TakesThresholdsBeyond,
+    TakesFullWindows,
+    TakesErrorsAtTheStart,
+    TakesBadBetweenSeconds,
+    TakesAnotherPhase,
+    EventsBeforeState,
     TimerSecond,
     TenIntervals,
     TwelveIntervals,
@@ -93,7 +123,7 @@ pub enum Slip {
 }
 
 impl Slip {
-    pub const ALL: [Slip; 74] = [
+    pub const ALL: [Slip; 103] = [
         Slip::LosesTheLinkAt49,
         Slip::LosesTheLinkAt51,
         Slip::RefusedFrameRestartsTheCount,
@@ -149,6 +179,35 @@ impl Slip {
         Slip::UnknownReportHasNoOctet,
         Slip::HeaderBeforeState,
         Slip::OutputBeforeReport,
+        Slip::AboveThresholdOnly,
+        Slip::TotalNotGrown,
+        Slip::ItselfNotCounted,
+        Slip::SecondFromNextTick,
+        Slip::CutOneLess,
+        Slip::WindowOneLonger,
+        Slip::TotalsOfEventsOnly,
+        Slip::ErrorsThatWrap,
+        Slip::WindowsStopWithTheLinkDown,
+        Slip::RefusedTickTakesItsCount,
+        Slip::Type4First,
+        Slip::TimestampBeforeTheTick,
+        Slip::ErrorTotalsStop,
+        Slip::EventTotalsStop,
+        Slip::ThirteenNumbersTaken,
+        Slip::ClearsNumbersBehindEvents,
+        Slip::RefusalStoresEvents,
+        Slip::ArisenNotTold,
+        Slip::LinkUpBeginsWindowsAnew,
+        Slip::TakesWindow9,
+        Slip::TakesWindow601,
+        Slip::TakesWindow105,
+        Slip::TakesThreshold0,
+        Slip::TakesThresholdsBeyond,
+        Slip::TakesFullWindows,
+        Slip::TakesErrorsAtTheStart,
+        Slip::TakesBadBetweenSeconds,
+        Slip::TakesAnotherPhase,
+        Slip::EventsBeforeState,
         Slip::TimerSecond,
         Slip::TenIntervals,
         Slip::TwelveIntervals,
@@ -180,6 +239,13 @@ impl Slip {
         let others = |slip: &Slip| *slip != Slip::TimerSecond;
         let limit = Slip::ALL.into_iter().skip_while(others);
         limit.take_while(Slip::is_before_responses)
+    }
+
+    /// Those in what a tick makes of its count.
+    pub fn in_windows() -> impl Iterator<Item = Slip> {
+        let others = |slip: &Slip| *slip != Slip::AboveThresholdOnly;
+        let windows = Slip::ALL.into_iter().skip_while(others);
+        windows.take_while(|slip| *slip != Slip::TakesWindow9)
     }
 
     fn is_before_responses(&self) -> bool {
@@ -216,53 +282,58 @@ pub struct Slipping {
 }
 
 impl Machine for Slipping {
-    fn fresh(&self, settings: &Settings, state: &mut [u8]) -> u64 {
-        let mut settings = *settings;
-        if self.slip == Slip::TakesSize63 && settings.size == 63 {
-            settings.size = 64;
+    fn fresh(&self, setup: &Setup, state: &mut [u8]) -> u64 {
+        let mut setup = *setup;
+        if self.slip == Slip::TakesSize63 && setup.settings.size == 63 {
+            setup.settings.size = 64;
         }
+        windows::set_up(self.slip, &mut setup.windows);
         self.twelfth.set(0);
-        ByPaper.fresh(&settings, state)
+        ByPaper.fresh(&setup, state)
     }
 
-    fn call(&self, call: &Call, header: &mut [u64], state: &mut [u8], out: &mut [u8]) -> u64 {
+    fn call(&self, call: &Call, numbers: &mut [u64], state: &mut [u8], out: &mut [u8]) -> u64 {
         let length = state.len();
         let state = match self.slip {
             Slip::TakesLongerStates => &mut state[..length.min(STATE_OCTETS)],
             _ => state,
         };
-        let Some(before) = self.unpacked(state) else {
-            return self.bad_state(call, header, out);
+        let Some(held) = self.unpacked(state) else {
+            return self.bad_state(call, numbers, out);
         };
+        let (before, mut watch) = (held.end, held.watch.numbers());
         let (mut end, mut given) = (before, call.clone());
         self.prepare(&mut end, &mut given);
         if responding::gives_12(self.slip, &end, &given) {
             return u64::from(answer::SIZE) | u64::from(end.role.octet()) << 40;
         }
-        let mut working = packed(&end);
-        let outcome = called(end, &given, header, &mut working, out);
-        let mut after = unpacked_with(&working, &Breach::ALL).expect("a state");
+        let mut working = State { end, ..held };
+        let outcome = windows::called(self.slip, &mut working, &given, numbers, out, &mut watch);
+        let mut after = working.end;
         let Outcome { answer, length, .. } = Outcome::of(outcome);
         let outcome = if answer == answer::ACCEPTED {
-            self.restore(&before, &end, call, &mut after, header);
+            self.restore(&before, &end, call, &mut after, numbers);
             limit::accepted(self.slip, &before, &end, call, &mut after);
             self.note_tick(call, &before);
             self.accepted(&before, call, &mut after);
-            self.stored(&after, call, length, header, out);
+            self.stored(&after, call, length, numbers, out);
             outcome & !(0xFF << 40) | u64::from(after.role.octet()) << 40
         } else {
             after = before;
-            self.refused(&mut after, call, outcome, header, out)
+            self.refused(&mut after, call, outcome, numbers, out)
         };
-        state.copy_from_slice(&limit::packed(self.slip, &after));
+        state.copy_from_slice(&limit::packed(self.slip, &after, &watch));
         outcome
     }
 
     fn show(&self, state: &[u8], numbers: &mut [u64]) -> u64 {
-        if self.slip == Slip::ShowsWithLessRoom && numbers.len() == END_NUMBERS - 1 {
+        if self.slip == Slip::ShowsWithLessRoom && numbers.len() == SHOWN_NUMBERS - 1 {
             return answer::ACCEPTED.into();
         }
-        let outcome = shown(self.unpacked(state), numbers);
+        let outcome = match self.unpacked(state) {
+            Some(held) => held.show(numbers),
+            None => answer::VALUES.into(),
+        };
         if self.slip == Slip::ShowsNothingOwed && outcome == 0 {
             numbers[26] = 0;
         }
@@ -279,23 +350,22 @@ impl Slipping {
         }
     }
 
-    /// The end in a state, if it is taken.
-    fn unpacked(&self, state: &[u8]) -> Option<End> {
-        let mut mended = state.to_vec();
-        if mended.len() == STATE_OCTETS {
-            limit::mend(self.slip, &mut mended);
-        }
-        unpacked_with(&mended, self.slip.breaches())
+    /// What is in a state, if it is taken.
+    fn unpacked(&self, state: &[u8]) -> Option<State> {
+        let mut mended: [u8; STATE_OCTETS] = state.try_into().ok()?;
+        limit::mend(self.slip, &mut mended);
+        windows::mend(self.slip, &mut mended);
+        State::from_octets_with(&mended, self.slip.breaches())
     }
 
     /// Alters what the paper's machine is given.
     fn prepare(&self, end: &mut End, call: &mut Call) {
         limit::prepare(self.slip, self.twelfth.get(), call, end);
         match (self.slip, call) {
-            (Slip::LosesTheLinkAt49, Call::Tick) if end.lost_link == LOST_LINK - 2 => {
+            (Slip::LosesTheLinkAt49, Call::Tick(_)) if end.lost_link == LOST_LINK - 2 => {
                 end.lost_link += 1;
             }
-            (Slip::LosesTheLinkAt51, Call::Tick) if end.link_up => {
+            (Slip::LosesTheLinkAt51, Call::Tick(_)) if end.link_up => {
                 let late = end.lost_link == LOST_LINK - 1 && !self.late.get();
                 end.lost_link -= u8::from(late);
                 self.late.set(late);
@@ -325,13 +395,18 @@ impl Slipping {
     }
 
     /// Alters the refusal of a state that is none.
-    fn bad_state(&self, call: &Call, header: &[u64], out: &mut [u8]) -> u64 {
+    fn bad_state(&self, call: &Call, numbers: &[u64], out: &mut [u8]) -> u64 {
         if self.slip == Slip::BadStateClearsOutput {
             out.fill(0);
         }
-        let short = matches!(call, Call::Receive(_)) && header.len() < RECEIVED;
-        match self.slip {
-            Slip::HeaderBeforeState if short => answer::OUTPUT.into(),
+        let short = numbers.len() < call.least_numbers();
+        match (self.slip, call) {
+            (Slip::HeaderBeforeState, Call::Receive(_))
+            | (Slip::EventsBeforeState, Call::Tick(_))
+                if short =>
+            {
+                answer::OUTPUT.into()
+            }
             _ => answer::VALUES.into(),
         }
     }
@@ -363,7 +438,7 @@ impl Slipping {
     }
 
     fn note_tick(&self, call: &Call, before: &End) {
-        if *call == Call::Tick {
+        if call.is_tick() {
             self.twelfth.set(limit::oldest(before));
         }
     }
@@ -371,7 +446,7 @@ impl Slipping {
     /// Alters the end that an accepted call leaves.
     fn accepted(&self, before: &End, call: &Call, after: &mut End) {
         match call {
-            Call::Tick => self.ticked(before, after),
+            Call::Tick(_) => self.ticked(before, after),
             Call::Report(number) => self.reported(*number, before, after),
             Call::Receive(frame) => self.received(frame, before, after),
             _ => self.requested(call, before, after),
@@ -487,7 +562,7 @@ impl Slipping {
             (Slip::RefusedFrameRestartsTheCount, Call::Receive(_)) => end.lost_link = 0,
             (Slip::RefusalStoresHeader, Call::Receive(_)) => header.fill(0),
             (Slip::RefusalHasNoOctet, _) => return answer.into(),
-            (_, Call::Tick) => self.refused_tick(end),
+            (_, Call::Tick(_)) => self.refused_tick(end),
             (Slip::ReadsBeforeOutput, Call::Receive(frame)) if header.len() >= RECEIVED => {
                 let reading = check(frame).err().unwrap_or(answer);
                 return outcome - u64::from(answer) + u64::from(reading);

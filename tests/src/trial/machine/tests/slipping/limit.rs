@@ -3,6 +3,7 @@
 use super::Slip;
 use crate::library::machine::{self, Call, STATE_OCTETS};
 use crate::paper::machine::{End, MOST_FRAMES, SECOND, STRETCH};
+use crate::paper::windows::WatchNumbers;
 use crate::trial::machine::damaged::{BIT_44, INTERVALS_AT, TICKS_AT};
 
 type Intervals = [u8; STRETCH];
@@ -14,7 +15,7 @@ pub fn prepare(slip: Slip, twelfth: u8, call: &Call, end: &mut End) {
     match slip {
         Slip::NineFrames if requested(MOST_FRAMES - 1) => end.intervals[0] += 1,
         Slip::ElevenFrames if requested(MOST_FRAMES) => take_one(&mut end.intervals),
-        _ if *call == Call::Tick && is_in_limit(slip) => gather(slip, end),
+        _ if call.is_tick() && is_in_limit(slip) => gather(slip, end),
         Slip::TwelveIntervals => {
             end.intervals[STRETCH - 1] += twelfth.min(MOST_FRAMES - end.written());
         }
@@ -34,7 +35,7 @@ fn gather(slip: Slip, end: &mut End) {
 
 /// Alters what an accepted call of an end that was given so leaves.
 pub fn accepted(slip: Slip, before: &End, given: &End, call: &Call, after: &mut End) {
-    if *call == Call::Tick && is_in_limit(slip) {
+    if call.is_tick() && is_in_limit(slip) {
         ticked(slip, before, after);
     } else if slip == Slip::TwelveIntervals {
         after.intervals[STRETCH - 1] -= oldest(given) - oldest(before);
@@ -103,9 +104,9 @@ pub fn mend(slip: Slip, state: &mut [u8]) {
     }
 }
 
-/// The octets in which an end is stored.
-pub fn packed(slip: Slip, end: &End) -> [u8; STATE_OCTETS] {
-    let mut state = machine::packed(end);
+/// The octets in which an end is stored, and a watch.
+pub fn packed(slip: Slip, end: &End, watch: &WatchNumbers) -> [u8; STATE_OCTETS] {
+    let mut state = machine::packed(end, watch);
     if slip == Slip::IntervalsLittleEndian {
         state[INTERVALS_AT].reverse();
     }

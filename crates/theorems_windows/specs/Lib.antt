@@ -1,0 +1,5 @@
+-- What the theorems on windows speak of.
+pub mod History
+pub mod Runs
+pub mod Numbers
+pub mod Examples
