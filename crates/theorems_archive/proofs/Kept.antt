@@ -11,7 +11,7 @@ use lib.Dec.{ltb, leb, eqb}
 use lib.ListN.{length}
 use lib.Seq.{sets}
 use Rattle.octets.proofs.Bools.{whether, never}
-use Rattle.link_limit.specs.Limit.{chargedMeter, closes, turnedMeter}
+use Rattle.link_limit.specs.Limit.{closes, turnedMeter}
 use Rattle.link_limit.specs.declared.Meter.{Meter}
 use Rattle.link_peer.specs.declared.Settings.{Settings}
 use Rattle.link_end.specs.declared.End.{End}
@@ -27,7 +27,7 @@ use Rattle.link_windows.specs.Ranges.{freshWatch, proper}
 use Rattle.theorems_windows.specs.History.{framesArisen, secondsArisen}
 use Rattle.theorems_windows.specs.Runs.{watchBy, WindowSettings, Accepted as WindowsAccepted, freshBy}
 use Rattle.theorems_windows.specs.Numbers.{HeldAfter, ArisenOf}
-use Rattle.theorems_windows.proofs.Keeping.{proper-fresh, phase-fresh, proper-counted, phase-counted}
+use Rattle.theorems_windows.proofs.Keeping.{proper-fresh, phase-fresh, proper-counted, phase-counted, by-appended}
 use Rattle.theorems_windows.proofs.Watching.{watch-history}
 use Rattle.theorems_windows.proofs.Showing.{shown-history}
 use Rattle.oam_packing.specs.Octets.{stateLength, packedIn, watchPackedIn, unpacked, watchIn}
@@ -39,7 +39,7 @@ use Rattle.theorems_reach.specs.Premises.{Accepted, OfOctets}
 use Rattle.theorems_reach.proofs.Refusing.{refused-end}
 use Rattle.theorems_reach.proofs.Standing.{fresh-ranged}
 use Rattle.theorems_reach.proofs.Ranging.{call-ranged}
-use Rattle.theorems_reach.proofs.Counting.{opened, counted, call-meter}
+use Rattle.theorems_reach.proofs.Counting.{opened, call-meter, counted-ticks}
 use Rattle.oam.specs.Machine.{answerOf, outputAfter, newsShown, heardIn, freshFor, freshState, reportFrom, reportedBy, receivedBy}
 use Rattle.oam.specs.Ticking.{arisenRoom, arisenNumbers, tickedBy, tickedNumber, tickedState, eventsAfterTick}
 use Rattle.theorems_archive.specs.Entries.{EntryInput, ticks, reports, receives, asks, EntryCall, isTicks, outcomeFor, outputFor, answerFor, stateFor, comesTo, watchFor, keptAfter, callOf, callsIn, countBy, countsIn, tickCall, tickThen, EntryOctets, AllOfOctetsIn}
@@ -79,13 +79,8 @@ after-appended s [] cs = refl
 after-appended s (c ∷ new) cs = ap (λ (e : End). outcomeOf c e .end) (after-appended s new cs)
 
 -- and of its ticks in the timer second: a frame that is written leaves them
-counted-ticks : (b : Bool) (m : Meter) → counted b m .ticks ≡ m .ticks
-unfolding chargedMeter
-counted-ticks true m = refl
-counted-ticks false m = refl
-
 call-ticks : (c : Call) (e : End) → OfOctets (c .input) → ranged e ≡ true → outcomeOf c e .end .meter .ticks ≡ opened c e .ticks
-call-ticks c e o r = ap (λ (m : Meter). m .ticks) (call-meter c e o r .meter) ∙ counted-ticks (wrote c e) (opened c e)
+call-ticks c e o r = ap (λ (m : Meter). m .ticks) (call-meter c e o r .meter) ∙ counted-ticks (opened c e) (wrote c e)
 
 -- ---- a call of the machine, stored
 
@@ -179,10 +174,6 @@ stored-entry (receives f room) out x e o k =
     (λ g. let b = stored-call x e (record { input = receive f; out = out }) refl o k in record { end = rw (k, g) (b .end); watch = rw (k, g) (b .watch) })
 stored-entry (asks q) out x e o k =
     let b = stored-call x e (record { input = request q; out = out }) refl tt k in record { end = rw k (b .end); watch = rw k (b .watch) }
-
-by-appended : (w : Watch) (h new : List ℕ) → watchBy (watchBy w h) new ≡ watchBy w (h ++ new)
-by-appended w [] new = refl
-by-appended w (count ∷ h) new = by-appended (takenCount w count .watch) h new
 
 -- ---- every history
 

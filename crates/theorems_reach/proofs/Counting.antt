@@ -121,7 +121,7 @@ module _ (m : Meter) where
   counted-newest true h k = charged-newest m (h refl) k
   counted-newest false h k = omega arith
 
-  counted-ticks : (b : Bool) → counted b m .ticks ≡ m .ticks
+  pub counted-ticks : (b : Bool) → counted b m .ticks ≡ m .ticks
   unfolding chargedMeter
   counted-ticks true = refl
   counted-ticks false = refl

@@ -127,10 +127,10 @@ module _ (w : Watch) (count : ℕ) where
 
 -- ---- a watch after any counts
 
--- the last of them taken by itself
-pub by-more : (w : Watch) (h : List ℕ) (count : ℕ) → watchBy w (h ++ (count ∷ [])) ≡ takenCount (watchBy w h) count .watch
-by-more w [] count = refl
-by-more w (first ∷ h) count = by-more (takenCount w first .watch) h count
+-- some of them after others
+pub by-appended : (w : Watch) (h new : List ℕ) → watchBy (watchBy w h) new ≡ watchBy w (h ++ new)
+by-appended w [] new = refl
+by-appended w (count ∷ h) new = by-appended (takenCount w count .watch) h new
 
 pub proper-by : (w : Watch) (h : List ℕ) → proper w ≡ true → proper (watchBy w h) ≡ true
 proper-by w [] p = p
