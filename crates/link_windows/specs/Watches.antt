@@ -1,6 +1,6 @@
 -- Both windows at one tick: "Take the count of bad frames at each tick and run two windows".
 use Prim.Native.Nat.{ℕ, _+_, _-_, _%_, _^_}
-use mathlib.Core.Bool.{Bool, false, cond, not, _&&_, _||_}
+use mathlib.Core.Bool.{Bool, false, cond, not, _||_}
 use lib.Dec.{eqb}
 use Rattle.octets.specs.Bits.{bitOf}
 use Rattle.link_limit.specs.Limit.{secondTicks}

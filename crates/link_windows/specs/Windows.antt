@@ -40,9 +40,8 @@ advanced w added =
       events = eventsAfter w added;
     }
 
--- the event of a type that arises at this tick, by the window before it, whose errors its end clears, and after it, whose totals have
--- this one in: "with totals since fresh, itself included, and as
--- timestamp the ticks since fresh modulo 65,536"
+-- the event of a type that arises at this tick, by the window before it, whose errors its end clears, and after it, whose totals
+-- have this one in: "with totals since fresh, itself included, and as timestamp the ticks since fresh modulo 65,536"
 unfoldable pub arisenIn : (kind stamp : ℕ) → Window → (added : ℕ) → Window → Arisen
 arisenIn kind stamp before added after =
     cond (arises before added)

@@ -12,6 +12,7 @@ pub use counting::take_count;
 use frame_tlvs::Event;
 pub use parts::watch_of;
 pub use ranges::fresh_watch;
+pub use ranges::fresh_window;
 pub use ranges::is_proper;
 
 // One window: its length in ticks and its threshold; of the present window the ticks so far and the errors in them; and since

@@ -55,7 +55,8 @@ fn seconds_settings(length: u64, threshold: u64) -> bool
     )
 }
 
-fn fresh_window(length: u16, threshold: u32) -> Window
+// A window before its first tick, whatever its length and threshold.
+pub fn fresh_window(length: u16, threshold: u32) -> Window
     ensures { λ r. ⌜ r ≡ freshWindow length threshold ⌝ }
 {
     Window {

@@ -16,14 +16,12 @@ ghost use mathlib.Core.Path.{_≡_};
 ghost use lib.ListN.{length, take, drop};
 ghost use Rattle.octets.specs.Octets.{total};
 ghost use Rattle.link_end.specs.Ranges.{checked};
-ghost use Rattle.link_windows.specs.Ranges.{freshWindow};
 ghost use Rattle.oam_packing.specs.Parts.{storedAt};
 ghost use Rattle.oam_packing.specs.Watches.{watchLengths, watchParts};
 ghost use Rattle.oam_packing.specs.Octets.{endLengths, endLength, stateLength, endParts, packedIn, watchPackedIn, isState, endOf, watchHeld, isWatched, unpacked, watchIn};
 use link_end::End;
 use link_end::MaybeEnd;
 use link_windows::Watch;
-use link_windows::Window;
 use parts::part;
 pub use peers::is_known;
 pub use peers::last_number;
@@ -137,25 +135,13 @@ pub fn pack(e: End, state: &mut [u8])
     put_others(e, state);
 }
 
-fn no_window() -> Window
-    ensures { λ r. ⌜ r ≡ freshWindow 0 0 ⌝ }
-{
-    Window {
-        length: 0,
-        threshold: 0,
-        at: 0,
-        errors: 0,
-        total: 0,
-        events: 0,
-    }
-}
-
 // The watch that a caller keeps in the octets of a state; of a slice of another length one of zeros.
 pub fn watch_in(state: &[u8]) -> Watch
     ensures { λ r. ⌜ r ≡ watchIn (now (state .entry)) ⌝ }
 {
     if state.len() != STATE_LENGTH {
-        return link_windows::watch_of(no_window(), no_window(), 0, false);
+        let none = link_windows::fresh_window(0, 0);
+        return link_windows::watch_of(none, none, 0, false);
     }
     watch_held(state)
 }
