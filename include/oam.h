@@ -17,10 +17,11 @@
 #define OAM_H
 
 /*
- * The version of what stands here and of a state's octets: it grows with every change of either. A state is
- * good for the build that made it. After an update make a fresh end (oam_fresh) and report the link.
+ * The version of the archive. It grows with every change request, also where what stands here and a state's
+ * octets stay as they were. A state is good for the build that made it: after an update make a fresh end
+ * (oam_fresh) and report the link.
  */
-#define OAM_VERSION 4
+#define OAM_VERSION 5
 
 #include <stddef.h>
 #include <stdint.h>

@@ -1,6 +1,7 @@
 //! The documents against the repository: every link leads somewhere, every name stands in the file that is said to have it,
 //! and every entry in the archive's header; every public function is among the promises of its crate, has a contract, and has no
-//! condition on its caller; and those that give an end are among those that are said to keep its ranges.
+//! condition on its caller; those that give an end are among those that are said to keep its ranges; and a frame is written
+//! where the caller wants it, and nowhere before.
 
 mod sources;
 
@@ -96,9 +97,10 @@ fn every_link_leads_to_what_it_says() {
     assert!(checked > 30, "only {checked} names were found to look for");
 }
 
-/// A public function: its name, its result's type, and the clauses of its contract.
+/// A public function: its name, its parameters in their brackets, its result's type, and the clauses of its contract.
 struct Public {
     name: String,
+    parameters: String,
     result: String,
     clauses: Vec<String>,
 }
@@ -150,6 +152,7 @@ fn public_functions(written: &str) -> Vec<Public> {
 fn public_at(text: &str) -> Public {
     let open = text.find('(').expect("a function has parameters");
     let mut rest = behind_bracket(&text[open..]);
+    let parameters = &text[open..text.len() - rest.len()];
     let mut result = None;
     let mut clauses = Vec::new();
     loop {
@@ -165,6 +168,7 @@ fn public_at(text: &str) -> Public {
     }
     Public {
         name: text[..open].to_string(),
+        parameters: parameters.to_string(),
         result: result.unwrap_or_default(),
         clauses,
     }
@@ -491,6 +495,84 @@ pub fn c() -> End {
     let told = paragraph(section(document, "end"), "So says");
     assert_eq!(not_named(told, &functions), ["a"]);
     assert_eq!(paragraph(document, "None"), "");
+}
+
+/// What the arrays of a source text are made of: what stands before the semicolon of a type or of a value that is repeated.
+fn elements(written: &str) -> Vec<String> {
+    let code = code(written);
+    let in_brackets = code.split('[').skip(1);
+    in_brackets
+        .filter_map(|rest| rest.split(']').next()?.split_once(';'))
+        .map(|(element, _)| element.to_string())
+        .collect()
+}
+
+/// The crates whose functions a frame comes through from an entry to its octets.
+fn writing_crates() -> Vec<PathBuf> {
+    let folders = fs::read_dir(repository().join("crates")).expect("the crates can be listed");
+    let folders = folders.map(|entry| entry.expect("an entry can be read").path());
+    let writes = |path: &PathBuf| {
+        let name = path.file_name().unwrap_or_default().to_string_lossy();
+        name == "frame_writer" || name.split('_').next() == Some("link")
+    };
+    folders.filter(writes).collect()
+}
+
+/// Those of some functions that write a frame and are lent something else to write to than the one output.
+fn other_outputs(functions: &[Public]) -> Vec<&str> {
+    let lent_one = |f: &Public| {
+        let lent: Vec<&str> = f.parameters.split("&mut ").collect();
+        lent.len() == 2 && lent[0].ends_with("out: ") && lent[1].starts_with("[u8]")
+    };
+    let others = functions
+        .iter()
+        .filter(|f| f.name.starts_with("write_") && !lent_one(f));
+    others.map(|f| f.name.as_str()).collect()
+}
+
+/// A frame is put together in the output that is lent, and nowhere else: where it is made no array holds octets, and the one
+/// thing that a writer may write to is the output.
+#[test]
+fn a_frame_is_written_straight_to_the_output() {
+    let crates = writing_crates();
+    assert!(crates.len() > 8, "only {} crates were found", crates.len());
+    for source in crates.iter().flat_map(|path| files(path, "rt")) {
+        let mut others = elements(&text(&source));
+        others.retain(|element| !["usize", "u64"].contains(&element.as_str()));
+        let source = source.display();
+        assert!(others.is_empty(), "{source}: arrays of {others:?}");
+    }
+    let writers = files(&repository().join("crates/frame_writer"), "rt");
+    let writers = writers.iter().flat_map(|s| public_functions(&text(s)));
+    let writers: Vec<Public> = writers.filter(|f| f.name.starts_with("write_")).collect();
+    assert!(writers.len() > 6, "only {} were found", writers.len());
+    assert_eq!(other_outputs(&writers), Vec::<&str>::new());
+}
+
+#[test]
+fn a_frame_that_is_written_elsewhere_is_seen() {
+    let source = "\
+pub fn write_a(out: &mut [u8], n: u8) -> Written {
+    let mut frame: [u8; 60] = [0u8; 60];
+    let other = [0; 60]; // [u8; 9]
+    let widths: [usize; 2] = [6, 6];
+}
+pub fn write_b(
+    n: &[u8],
+    out: &mut [u8],
+    room: &mut [u8],
+) -> Written {
+}
+pub fn write_c(frame: &mut Frame) {
+}
+pub fn c(frame: &mut Frame) {
+}
+";
+    assert_eq!(elements(source), ["u8", "0u8", "0", "usize"]);
+    assert_eq!(
+        other_outputs(&public_functions(source)),
+        ["write_b", "write_c"]
+    );
 }
 
 const MADE_UP: &str = "\

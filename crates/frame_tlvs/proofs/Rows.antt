@@ -1,5 +1,5 @@
 -- Laws of the table of widths, and of the fields that stand by a row of it.
-use Prim.Native.Nat.{ℕ, zero, suc, _+_, _-_, _<_, _≤_}
+use Prim.Native.Nat.{ℕ, zero, suc, _+_, _<_, _≤_}
 use mathlib.Core.Path.{_≡_, refl, _∙_}
 use mathlib.Core.List.{List, [], _∷_, map}
 use mathlib.Core.Bool.{Bool, true, _&&_}
@@ -12,18 +12,12 @@ use lib.Seq.{drop-cons}
 use Rattle.octets.specs.Octets.{num, total, fieldsAt}
 use Rattle.octets.proofs.Bools.{and-l, and-r}
 use Rattle.frame_tlvs.specs.Events.{isWord, startsFrom, eventOf}
-use Rattle.frame_tlvs.specs.Tlvs.{rows, row, eventLength}
+use Rattle.frame_tlvs.specs.Tlvs.{row, eventLength}
 
 -- "Length" in the table of event TLVs, and 0 for what is not in it
 pub lengths : map eventLength (0 ∷ 1 ∷ 2 ∷ 3 ∷ 4 ∷ 5 ∷ []) ≡ 0 ∷ 40 ∷ 26 ∷ 28 ∷ 18 ∷ 0 ∷ []
 unfolding eventLength row
 lengths = refl
-
--- a type's row is one less along in the table
-pub row-at : (t : ℕ) → 0 < t → getD rows (t - 1) [] ≡ row t
-unfolding row
-row-at zero h = absurd (omega arith)
-row-at (suc t) h = let e : suc t - 1 ≡ t = omega arith in rw e
 
 -- what holds of the four rows holds of each
 pub four : (P : List ℕ → Type 0) → P (row 1) → P (row 2) → P (row 3) → P (row 4) → (t : ℕ) → 0 < t → t ≤ 4 → P (row t)

@@ -22,12 +22,18 @@ const WIDTHS: [[usize; 6]; 4] = [
     [2, 2, 2, 2, 4, 4],
 ];
 
+// The row of a type from 1 to 4, each at a constant place: at a place that is known only when it runs, the whole table would be
+// stored on the stack first.
 fn widths_of(t: u8) -> [usize; 6]
     requires { ⌜ (0 < t) × (t ≤ 4) ⌝ }
     ensures { λ r. ⌜ r ≡ row t ⌝ }
 {
-    let i = (t - 1) as usize;
-    WIDTHS[i]
+    match t {
+        1 => WIDTHS[0],
+        2 => WIDTHS[1],
+        3 => WIDTHS[2],
+        _ => WIDTHS[3],
+    }
 }
 
 // The widths of an event's fields by its type; zeros for a type that is not in the table.

@@ -1,5 +1,6 @@
 //! Memory that is lent to a call.
 
+use crate::paper::LONGEST;
 use crate::random::Random;
 
 /// Elements behind a lent slice that no call may touch; before it there are as
@@ -94,15 +95,30 @@ pub enum Room {
     More,
     None,
     Any,
+    /// As much as the longest frame has octets, whatever is to be written.
+    Longest,
 }
 
 impl Room {
+    /// Those for anything that is written.
     pub const ALL: [Room; 5] = [
         Room::Exact,
         Room::OneLess,
         Room::More,
         Room::None,
         Room::Any,
+    ];
+
+    /// Those for a frame; in more than one of four a short frame leaves much that must
+    /// keep its value.
+    pub const FOR_FRAMES: [Room; 7] = [
+        Room::Exact,
+        Room::OneLess,
+        Room::More,
+        Room::None,
+        Room::Any,
+        Room::Longest,
+        Room::Longest,
     ];
 
     /// The room for `length` elements, one or more of them.
@@ -113,6 +129,7 @@ impl Room {
             Room::More => length + random.between(1, 100),
             Room::None => 0,
             Room::Any => random.below(2 * length),
+            Room::Longest => LONGEST,
         }
     }
 }
@@ -155,6 +172,7 @@ mod tests {
             assert_eq!(Room::OneLess.of(&mut random, length), length - 1);
             assert!(Room::More.of(&mut random, length) > length);
             assert_eq!(Room::None.of(&mut random, length), 0);
+            assert_eq!(Room::Longest.of(&mut random, length), 1514);
         }
     }
 }

@@ -5,7 +5,7 @@ use super::*;
 use crate::library::{answer_of, kind, length_of, ByHand, ByPaper, Library, HEADER, ROW};
 use crate::paper::walk::next_container;
 use crate::paper::{
-    answer, asked, code, list, log::FIELDS, Draft, DraftBody, Listed, BODY, MOST_PARTS,
+    answer, asked, code, list, log::FIELDS, Draft, DraftBody, Listed, BODY, LONGEST, MOST_PARTS,
     PLAIN_CONTAINER_OCTETS, PLAIN_EVENTS, SHORTEST,
 };
 
@@ -51,6 +51,8 @@ fn each_slip_in_writing_is_found() {
     use Slip::*;
     for (slip, function) in [
         (ClearsOutput, "oam_write_loopback"),
+        (CopiesItsBuffer, "oam_write_loopback"),
+        (CopiesItsBuffer, "oam_write_information"),
         (WritesThenRefuses, "oam_write_loopback"),
         (KeepsPadding, "oam_write_loopback"),
         (LengthOffByOne, "oam_write_loopback"),
@@ -175,6 +177,9 @@ fn each_slip_in_the_log_is_found() {
 #[derive(Clone, Copy, Debug, PartialEq, Eq)]
 enum Slip {
     ClearsOutput,
+    /// The frame is put together in a buffer of 1,514 octets, which is copied out whole
+    /// where there is room for it.
+    CopiesItsBuffer,
     WritesThenRefuses,
     KeepsPadding,
     LengthOffByOne,
@@ -253,6 +258,9 @@ impl Library for Slipping {
         let (answer, length) = (answer_of(outcome), (outcome >> 8) as usize);
         match (self.0, answer) {
             (Slip::ClearsOutput, answer::ACCEPTED) => out[length..].fill(0),
+            (Slip::CopiesItsBuffer, answer::ACCEPTED) if out.len() == LONGEST => {
+                out[length..].fill(0);
+            }
             (Slip::WritesThenRefuses, answer::OUTPUT) => out.fill(0),
             (Slip::KeepsPadding, answer::ACCEPTED) if draft.body.code() == code::LOOPBACK => {
                 out[19..length].copy_from_slice(&before[19..length]);

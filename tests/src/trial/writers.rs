@@ -9,7 +9,7 @@ use crate::compare::{from_difference, hex};
 use crate::generate::{any_draft, faults, near_plain, DraftClaim, Fault, MadeDraft};
 use crate::library::{answer_of, length_of, message, writer_name, Library, Unread};
 use crate::paper::{
-    answer, check, code, is_plain, list, read, Draft, DraftBody, Message, BODY, LONGEST,
+    answer, check, code, is_plain, list, read, Draft, DraftBody, Message, BODY, LONGEST, SHORTEST,
 };
 use crate::random::Random;
 
@@ -37,6 +37,8 @@ struct Trial<'a> {
     answers: Tally<(u8, u8)>,
     faults: Tally<(u8, Fault)>,
     rooms: Tally<(Room, u8)>,
+    /// The shortest frames in the longest outputs.
+    short_in_long: Tally<u8>,
     read_back: Tally<u8>,
     /// Frames by the code of those that are accepted, plain or not.
     written_again: Tally<(Option<u8>, bool)>,
@@ -50,6 +52,7 @@ impl<'a> Trial<'a> {
             answers: Tally::expecting(each_with(&code::ALL, &ANSWERS)),
             faults: Tally::expecting(every_fault()),
             rooms: Tally::expecting(possible_rooms()),
+            short_in_long: Tally::expecting(code::ALL),
             read_back: Tally::expecting(code::ALL),
             written_again: Tally::expecting(plain_or_not()),
         }
@@ -64,7 +67,7 @@ impl<'a> Trial<'a> {
         if let DraftClaim::Refused(fault) = made.claim {
             self.faults.count((code, fault));
         }
-        for room in Room::ALL {
+        for room in Room::FOR_FRAMES {
             let length = room.of(&mut self.random, made.length);
             let lent = Lent::octets(&mut self.random, length);
             let called = self.contest.call(
@@ -76,6 +79,9 @@ impl<'a> Trial<'a> {
             let answer = answer_of(called.outcome);
             self.answers.count((code, answer));
             self.rooms.count((room, answer));
+            if (room, length_of(called.outcome)) == (Room::Longest, SHORTEST) {
+                self.short_in_long.count(code);
+            }
             if !called.agreed {
                 return; // the same draft would only differ again
             }
@@ -130,6 +136,10 @@ impl<'a> Trial<'a> {
         });
         report.add("outputs", &self.rooms, |(room, answer)| {
             format!("of the length {room:?}, answered {answer}")
+        });
+        let title = "frames of 60 octets in outputs of 1,514";
+        report.add(title, &self.short_in_long, |&code| {
+            writer_name(code).to_string()
         });
         let title = "ways to have no plain form";
         report.add_many(title, &self.faults, |(code, fault)| {
@@ -207,11 +217,11 @@ fn every_fault() -> Vec<(u8, Fault)> {
 /// Enough room is never answered 9, too little never 0.
 fn possible_rooms() -> Vec<(Room, u8)> {
     let impossible = |&(room, answer): &(Room, u8)| match room {
-        Room::Exact | Room::More => answer == answer::OUTPUT,
+        Room::Exact | Room::More | Room::Longest => answer == answer::OUTPUT,
         Room::OneLess | Room::None => answer == answer::ACCEPTED,
         Room::Any => false,
     };
-    let mut rooms = each_with(&Room::ALL, &ANSWERS);
+    let mut rooms = each_with(&Room::FOR_FRAMES, &ANSWERS);
     rooms.retain(|room| !impossible(room));
     rooms
 }

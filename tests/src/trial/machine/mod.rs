@@ -58,6 +58,8 @@ struct Trial<'a> {
     settings_faults: Tally<SettingsFault>,
     answers: Tally<(&'static str, u8)>,
     rooms: Tally<(Room, bool)>,
+    /// The shortest frames in the longest outputs, by call.
+    short_in_long: Tally<&'static str>,
     stands: Tally<(Discovery, Role)>,
     happenings: Tally<Happening>,
     limiting: Tally<Limiting>,
@@ -80,6 +82,7 @@ impl<'a> Trial<'a> {
             settings_faults: Tally::expecting(SettingsFault::ALL),
             answers: Tally::expecting(possible_answers()),
             rooms: Tally::expecting(possible_rooms()),
+            short_in_long: Tally::expecting(Call::NAMES),
             stands: Tally::expecting(possible_stands()),
             happenings: Tally::expecting(Happening::ALL),
             limiting: Limiting::tally(calls),
@@ -188,10 +191,13 @@ impl<'a> Trial<'a> {
     fn turn(&mut self, played: &mut Played, turn: Turn) -> Result<u8, String> {
         let before = played.end();
         let name = turn.call.name();
-        let short = turn.is_short_of_numbers();
+        let (short, out) = (turn.is_short_of_numbers(), turn.out);
         let outcome = Outcome::of(played.turn(&mut self.random, turn)?.outcome);
         self.calls += 1;
         self.answers.count((name, outcome.answer));
+        if (out, outcome.length) == (LONGEST, SHORTEST) {
+            self.short_in_long.count(name);
+        }
         if outcome.answer != answer::ACCEPTED && before.role != Role::Idle {
             let name = if short { short_of_numbers(name) } else { name };
             self.busy.count((name, outcome.answer));
@@ -233,6 +239,8 @@ impl<'a> Trial<'a> {
             let answered = if *short { "9" } else { "otherwise" };
             format!("of the length {room:?}, answered {answered}")
         });
+        let title = "frames of 60 octets in outputs of 1,514";
+        report.add(title, &self.short_in_long, |name| name.to_string());
         report.add("calls that left an end in", &self.stands, |stand| {
             format!("{:?}, {:?}", stand.0, stand.1)
         });
@@ -256,6 +264,7 @@ fn lend(random: &mut Random, call: Call, end: &End) -> (Turn, Room) {
     let room = match random.below(16) {
         0 => random.pick(&[Room::OneLess, Room::None, Room::Any]),
         1..=4 => Room::More,
+        5..=8 => Room::Longest,
         _ => Room::Exact,
     };
     let least = call.least_numbers();
@@ -310,7 +319,7 @@ fn possible_busy() -> Vec<(&'static str, u8)> {
 /// Of enough room only too few numbers are answered 9.
 fn possible_rooms() -> Vec<(Room, bool)> {
     let each = |room| [(room, false), (room, true)];
-    Room::ALL.into_iter().flat_map(each).collect()
+    Room::FOR_FRAMES.into_iter().flat_map(each).collect()
 }
 
 /// Only in SEND_ANY a role is other than Idle.

@@ -12,7 +12,7 @@ use crate::paper::machine::{
     configuration, Breach, Discovery, End, Report, Role, COMPLETE, LOST_LINK, MOST_FRAMES,
     SMALLEST_SIZE,
 };
-use crate::paper::{answer, check, code, joined, read, Body, Heading, SHORTEST};
+use crate::paper::{answer, check, code, joined, read, Body, Heading, LONGEST, SHORTEST};
 use std::cell::Cell;
 
 #[derive(Clone, Copy, Debug, PartialEq, Eq)]
@@ -36,6 +36,7 @@ pub enum Slip {
     KeptFieldSentWithoutRecord,
     RemoteStateAsReceived,
     ClearsOutput,
+    CopiesItsBuffer,
     RefusalStoresHeader,
     RefusalHasNoOctet,
     DiscoveryBeforeValues,
@@ -123,7 +124,7 @@ pub enum Slip {
 }
 
 impl Slip {
-    pub const ALL: [Slip; 103] = [
+    pub const ALL: [Slip; 104] = [
         Slip::LosesTheLinkAt49,
         Slip::LosesTheLinkAt51,
         Slip::RefusedFrameRestartsTheCount,
@@ -143,6 +144,7 @@ impl Slip {
         Slip::KeptFieldSentWithoutRecord,
         Slip::RemoteStateAsReceived,
         Slip::ClearsOutput,
+        Slip::CopiesItsBuffer,
         Slip::RefusalStoresHeader,
         Slip::RefusalHasNoOctet,
         Slip::DiscoveryBeforeValues,
@@ -535,6 +537,7 @@ impl Slipping {
                 out[39] = after.peer.map_or(0, |peer| peer.state);
             }
             (Slip::ClearsOutput, _) => out[length..].fill(0),
+            (Slip::CopiesItsBuffer, _) if out.len() == LONGEST => out[length..].fill(0),
             (slip, Call::Respond(_)) => responding::stored(slip, &mut out[..length]),
             _ => {}
         }
