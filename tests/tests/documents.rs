@@ -507,72 +507,62 @@ fn elements(written: &str) -> Vec<String> {
         .collect()
 }
 
-/// The crates whose functions a frame comes through from an entry to its octets.
-fn writing_crates() -> Vec<PathBuf> {
-    let folders = fs::read_dir(repository().join("crates")).expect("the crates can be listed");
-    let folders = folders.map(|entry| entry.expect("an entry can be read").path());
-    let writes = |path: &PathBuf| {
-        let name = path.file_name().unwrap_or_default().to_string_lossy();
-        name == "frame_writer" || name.split('_').next() == Some("link")
-    };
-    folders.filter(writes).collect()
+/// Whether a frame comes through the functions of a crate, from an entry to its octets.
+fn makes_frames(name: &str) -> bool {
+    name == "frame_writer" || name.split('_').next() == Some("link")
 }
 
-/// Those of some functions that write a frame and are lent something else to write to than the one output.
-fn other_outputs(functions: &[Public]) -> Vec<&str> {
-    let lent_one = |f: &Public| {
-        let lent: Vec<&str> = f.parameters.split("&mut ").collect();
-        lent.len() == 2 && lent[0].ends_with("out: ") && lent[1].starts_with("[u8]")
-    };
-    let others = functions
-        .iter()
-        .filter(|f| f.name.starts_with("write_") && !lent_one(f));
-    others.map(|f| f.name.as_str()).collect()
+/// Whether the one thing that a function may write to is the output.
+fn writes_to_the_output_alone(function: &Public) -> bool {
+    let lent: Vec<&str> = function.parameters.split("&mut ").collect();
+    lent.len() == 2 && lent[0].ends_with("out: ") && lent[1].starts_with("[u8]")
 }
 
 /// A frame is put together in the output that is lent, and nowhere else: where it is made no array holds octets, and the one
 /// thing that a writer may write to is the output.
 #[test]
 fn a_frame_is_written_straight_to_the_output() {
-    let crates = writing_crates();
-    assert!(crates.len() > 8, "only {} crates were found", crates.len());
-    for source in crates.iter().flat_map(|path| files(path, "rt")) {
+    let crates = repository().join("crates");
+    let mut making = stems(&crates);
+    making.retain(|name| makes_frames(name));
+    assert!(making.len() > 8, "only {making:?} were found");
+    for source in making.iter().flat_map(|n| files(&crates.join(n), "rt")) {
         let mut others = elements(&text(&source));
         others.retain(|element| !["usize", "u64"].contains(&element.as_str()));
         let source = source.display();
         assert!(others.is_empty(), "{source}: arrays of {others:?}");
     }
-    let writers = files(&repository().join("crates/frame_writer"), "rt");
-    let writers = writers.iter().flat_map(|s| public_functions(&text(s)));
-    let writers: Vec<Public> = writers.filter(|f| f.name.starts_with("write_")).collect();
+    let functions = all_public_functions().into_iter();
+    let functions = functions.filter(|(name, _)| makes_frames(name));
+    let mut writers: Vec<Public> = functions.flat_map(|(_, each)| each).collect();
+    writers.retain(|function| function.name.starts_with("write_"));
     assert!(writers.len() > 6, "only {} were found", writers.len());
-    assert_eq!(other_outputs(&writers), Vec::<&str>::new());
+    for writer in writers {
+        assert!(writes_to_the_output_alone(&writer), "{}", writer.name);
+    }
 }
 
 #[test]
 fn a_frame_that_is_written_elsewhere_is_seen() {
     let source = "\
-pub fn write_a(out: &mut [u8], n: u8) -> Written {
+pub fn a(out: &mut [u8], n: u8) -> Written {
     let mut frame: [u8; 60] = [0u8; 60];
     let other = [0; 60]; // [u8; 9]
     let widths: [usize; 2] = [6, 6];
 }
-pub fn write_b(
+pub fn b(
     n: &[u8],
     out: &mut [u8],
     room: &mut [u8],
 ) -> Written {
 }
-pub fn write_c(frame: &mut Frame) {
-}
 pub fn c(frame: &mut Frame) {
 }
 ";
     assert_eq!(elements(source), ["u8", "0u8", "0", "usize"]);
-    assert_eq!(
-        other_outputs(&public_functions(source)),
-        ["write_b", "write_c"]
-    );
+    let functions = public_functions(source);
+    let alone: Vec<bool> = functions.iter().map(writes_to_the_output_alone).collect();
+    assert_eq!(alone, [true, false, false]);
 }
 
 const MADE_UP: &str = "\

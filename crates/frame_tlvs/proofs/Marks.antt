@@ -5,10 +5,10 @@ use mathlib.Core.Bool.{Bool, false, cond, _||_}
 use mathlib.Core.List.{List}
 use native.Mathlib.Omega.{arith}
 use borrow.Author.Tests.{ltb-true, ltb-false, leb-false, eqb-true, eqb-false, eq-eqb, ne-eqb, lt-leb, le-leb, le-ltb}
-use lib.ListN.{length, getD}
+use lib.ListN.{length, getD, replicate}
 use lib.Dec.{ltb, leb, eqb}
 use Rattle.octets.specs.Octets.{total}
-use Rattle.frame_tlvs.specs.Tlvs.{tlvAt, row, informationLength, eventLength, known, marked, markAt, unknownMark, knownMark}
+use Rattle.frame_tlvs.specs.Tlvs.{tlvAt, row, informationLength, eventWidths, eventLength, known, marked, markAt, unknownMark, knownMark}
 use Rattle.frame_tlvs.specs.declared.tlvs.Tlv.{Tlv}
 use Rattle.frame_tlvs.specs.declared.tlvs.Tlv.the-variants.{End as TlvEnd, Broken as TlvBroken, At}
 use Rattle.frame_tlvs.specs.declared.Mark.{Mark}
@@ -142,10 +142,19 @@ event-sized inside t n least most e =
 pub event-known : (s : List ℕ) (at t n : ℕ) → at < length s → getD s at 0 ≡ t → 0 < t → t ≤ 4 → n ≡ eventLength t → knownMark s at n ≡ markAt Events s at
 event-known s at t n inside here least most e = known-mark Events s at t n inside here least (sym e) (event-sized inside t n least most e .1)
 
--- a type that is none of the table's has no length there
-pub event-unknown : (t : ℕ) → (t ≡ 1 → ⊥) → (t ≡ 2 → ⊥) → (t ≡ 3 → ⊥) → (t ≡ 4 → ⊥) → eventLength t ≡ 0
-unfolding eventLength
-event-unknown t a b c d =
-    let P : ℕ → Type 0 = λ (n : ℕ). n ≡ 0 in
+-- a type that is none of the table's is below its first or above its last
+pub not-in-table : (A : Type 0) (none row : A) (t : ℕ) → (t ≡ 1 → ⊥) → (t ≡ 2 → ⊥) → (t ≡ 3 → ⊥) → (t ≡ 4 → ⊥)
+    → cond (eqb t 0) none (cond (ltb 4 t) none row) ≡ none
+not-in-table A none row t a b c d =
+    let P : A → Type 0 = λ (n : A). n ≡ none in
     by-cond P (eqb t 0) (λ _. refl) (λ z.
     by-cond P (ltb 4 t) (λ _. refl) (λ u. absurd (let some = eqb-false t 0 z in omega (arith, ltb-false 4 t u))))
+
+-- so it has no length there, and no widths
+pub event-unknown : (t : ℕ) → (t ≡ 1 → ⊥) → (t ≡ 2 → ⊥) → (t ≡ 3 → ⊥) → (t ≡ 4 → ⊥) → eventLength t ≡ 0
+unfolding eventLength
+event-unknown t = not-in-table ℕ 0 (2 + total (row t)) t
+
+pub no-widths : (t : ℕ) → (t ≡ 1 → ⊥) → (t ≡ 2 → ⊥) → (t ≡ 3 → ⊥) → (t ≡ 4 → ⊥) → eventWidths t ≡ replicate 6 0
+unfolding eventWidths
+no-widths t = not-in-table (List ℕ) (replicate 6 0) (row t) t

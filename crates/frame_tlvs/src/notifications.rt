@@ -22,35 +22,22 @@ const WIDTHS: [[usize; 6]; 4] = [
     [2, 2, 2, 2, 4, 4],
 ];
 
-// The row of a type from 1 to 4, each at a constant place: at a place that is known only when it runs, the whole table would be
-// stored on the stack first.
-fn widths_of(t: u8) -> [usize; 6]
-    requires { ⌜ (0 < t) × (t ≤ 4) ⌝ }
-    ensures { λ r. ⌜ r ≡ row t ⌝ }
+// The widths of an event's fields by its type; zeros for a type that is not in the table. Each row is taken at a constant place:
+// a table that is indexed by a variable would be stored on the stack at each use.
+pub fn event_widths(t: u8) -> [usize; 6]
+    ensures { λ r. ⌜ r ≡ eventWidths t ⌝ }
 {
     match t {
         1 => WIDTHS[0],
         2 => WIDTHS[1],
         3 => WIDTHS[2],
-        _ => WIDTHS[3],
+        4 => WIDTHS[3],
+        _ => [0; 6],
     }
-}
-
-// The widths of an event's fields by its type; zeros for a type that is not in the table.
-pub fn event_widths(t: u8) -> [usize; 6]
-    ensures { λ r. ⌜ r ≡ eventWidths t ⌝ }
-{
-    if t == 0 {
-        return [0; 6];
-    }
-    if 4 < t {
-        return [0; 6];
-    }
-    widths_of(t)
 }
 
 // A TLV's length by its type, with the type and length octets; 0 for a type that is not in the table. The numbers are the sums
-// of the table's rows, as is proved: a table that is indexed by a variable would be stored at each use.
+// of the table's rows, as is proved.
 pub fn event_length(t: u8) -> usize
     ensures { λ r. ⌜ r ≡ eventLength t ⌝ }
 {

@@ -100,8 +100,8 @@ pub enum Room {
 }
 
 impl Room {
-    /// Those for anything that is written.
-    pub const ALL: [Room; 5] = [
+    /// Those that go by the length of what is to be written.
+    pub const BY_LENGTH: [Room; 5] = [
         Room::Exact,
         Room::OneLess,
         Room::More,
@@ -111,15 +111,9 @@ impl Room {
 
     /// Those for a frame; in more than one of four a short frame leaves much that must
     /// keep its value.
-    pub const FOR_FRAMES: [Room; 7] = [
-        Room::Exact,
-        Room::OneLess,
-        Room::More,
-        Room::None,
-        Room::Any,
-        Room::Longest,
-        Room::Longest,
-    ];
+    pub fn for_frames() -> impl Iterator<Item = Room> {
+        Room::BY_LENGTH.into_iter().chain([Room::Longest; 2])
+    }
 
     /// The room for `length` elements, one or more of them.
     pub fn of(self, random: &mut Random, length: usize) -> usize {

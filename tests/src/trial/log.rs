@@ -101,7 +101,7 @@ impl<'a> Trial<'a> {
             ref event,
             ..
         } = *entry;
-        for room in Room::ALL {
+        for room in Room::BY_LENGTH {
             let length = room.of(&mut self.random, length(entry));
             let lent = Lent::octets(&mut self.random, length);
             let what = || format!("number {number}, position {position}, event {event:?}");

@@ -201,7 +201,7 @@ impl<'a> Trial<'a> {
     /// treated as if it had one.
     fn descriptors(&mut self, frame: &[u8]) {
         let count = asked(frame).map_or(0, |asked| asked.len());
-        for room in Room::ALL {
+        for room in Room::BY_LENGTH {
             let length = room.of(&mut self.random, count.max(1));
             let lent = Lent::descriptors(&mut self.random, length);
             let what = || format!("{} octets {}", frame.len(), hex(frame));

@@ -67,7 +67,7 @@ impl<'a> Trial<'a> {
         if let DraftClaim::Refused(fault) = made.claim {
             self.faults.count((code, fault));
         }
-        for room in Room::FOR_FRAMES {
+        for room in Room::for_frames() {
             let length = room.of(&mut self.random, made.length);
             let lent = Lent::octets(&mut self.random, length);
             let called = self.contest.call(
@@ -221,7 +221,8 @@ fn possible_rooms() -> Vec<(Room, u8)> {
         Room::OneLess | Room::None => answer == answer::ACCEPTED,
         Room::Any => false,
     };
-    let mut rooms = each_with(&Room::FOR_FRAMES, &ANSWERS);
+    let rooms: Vec<Room> = Room::for_frames().collect();
+    let mut rooms = each_with(&rooms, &ANSWERS);
     rooms.retain(|room| !impossible(room));
     rooms
 }

@@ -33,14 +33,7 @@ pub struct WatchNumbers {
 
 impl WindowNumbers {
     fn fresh(length: u64, threshold: u64) -> Self {
-        WindowNumbers {
-            length,
-            threshold,
-            at: 0,
-            errors: 0,
-            total: 0,
-            events: 0,
-        }
+        WindowNumbers::from_list([length, threshold, 0, 0, 0, 0])
     }
 
     /// As they are packed.

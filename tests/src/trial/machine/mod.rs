@@ -319,7 +319,7 @@ fn possible_busy() -> Vec<(&'static str, u8)> {
 /// Of enough room only too few numbers are answered 9.
 fn possible_rooms() -> Vec<(Room, bool)> {
     let each = |room| [(room, false), (room, true)];
-    Room::FOR_FRAMES.into_iter().flat_map(each).collect()
+    Room::for_frames().flat_map(each).collect()
 }
 
 /// Only in SEND_ANY a role is other than Idle.
