@@ -161,6 +161,8 @@ static void carry(struct end *from, struct end *to)
         from->first = (from->first + 1) % QUEUE;
         from->count -= 1;
         finish(to, outcome);
+        must(oam_answer(outcome) != OAM_ACCEPTED || header[OAM_HEADER_SKIPPED] == 0,
+             "an end sends no TLV that the other skips");
         if (oam_shown(outcome) == OAM_SHOWN_EVENTS) {
             print_events(to, f);
         } else if (header[OAM_HEADER_CODE] == OAM_CODE_VARIABLE_REQUEST) {

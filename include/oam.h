@@ -21,7 +21,7 @@
  * octets stay as they were. A state is good for the build that made it: after an update make a fresh end
  * (oam_fresh) and report the link.
  */
-#define OAM_VERSION 5
+#define OAM_VERSION 6
 
 #include <stddef.h>
 #include <stdint.h>
@@ -75,8 +75,8 @@ enum {
 #define OAM_EVENT_NUMBERS 7       /* an event */
 #define OAM_ARISEN_NUMBERS 14     /* the two events that may arise with one tick */
 #define OAM_ATTRIBUTE_NUMBERS 2   /* an attribute: its descriptor and its width */
-#define OAM_HEADER_NUMBERS 4      /* what oam_read, oam_read_all and oam_receive store of a header */
-#define OAM_ROW_NUMBERS 9         /* a row, which oam_read_all stores of each part */
+#define OAM_HEADER_NUMBERS 5      /* what oam_read, oam_read_all and oam_receive store of a header */
+#define OAM_ROW_NUMBERS 10        /* a row, which oam_read_all stores of each part */
 #define OAM_LINE_NUMBERS 9        /* what oam_log_read stores */
 #define OAM_SHOWN_NUMBERS 43      /* what oam_show stores */
 
@@ -167,12 +167,13 @@ enum {
     OAM_DISCOVERY_SEND_ANY = 5
 };
 
-/* The places of a header's four numbers. */
+/* The places of a header's five numbers. */
 enum {
     OAM_HEADER_SOURCE = 0,
     OAM_HEADER_FLAGS = 1, /* all sixteen bits, as received */
     OAM_HEADER_CODE = 2,
-    OAM_HEADER_NUMBER = 3
+    OAM_HEADER_NUMBER = 3,
+    OAM_HEADER_SKIPPED = 4 /* TLVs of unknown type that were skipped, at most 748; 0 for codes without TLVs */
 };
 
 /* The places of an Information TLV's seven numbers. */
@@ -209,8 +210,9 @@ enum { OAM_LINE_NUMBER = 0, OAM_LINE_POSITION = 1, OAM_LINE_EVENT = 2 };
 /* The places of a row's numbers. The last ones are the part's, and zeros behind them. */
 enum {
     OAM_ROW_KIND = 0,
-    OAM_ROW_NEXT = 1, /* the octet of the frame after the part */
-    OAM_ROW_PART = 2
+    OAM_ROW_NEXT = 1,    /* the octet of the frame after the part */
+    OAM_ROW_SKIPPED = 2, /* TLVs of unknown type skipped before the part since the body's start */
+    OAM_ROW_PART = 3
 };
 
 /* The kinds of part, none of them an answer's number. The part's numbers stand behind each. */
@@ -375,9 +377,11 @@ uint64_t oam_tick(uint64_t bad_frames, uint64_t *events, size_t events_len, uint
 uint64_t oam_report(uint8_t report, uint8_t *state, size_t state_len, uint8_t *out, size_t out_len);
 
 /*
- * Takes one received frame. Of an accepted one four numbers are stored in the header: source, flags,
- * code, and the event number where the events are new, else 0. Whether they are new is what oam_shown
- * says, since an event number may be 0. Writes an Information frame as a tick does where one is owed.
+ * Takes one received frame. Of an accepted one five numbers are stored in the header: source, flags,
+ * code, the event number where the events are new, else 0, and how many TLVs were skipped. Whether events
+ * are new is what oam_shown says, since an event number may be 0. What was skipped changes nothing of the
+ * end, and is told of every accepted frame, also with the link down, outside SEND_ANY and of a repeat.
+ * Writes an Information frame as a tick does where one is owed.
  * Returns an outcome: accepted, OAM_SHORT_OUTPUT for a header under OAM_HEADER_NUMBERS numbers or an
  * output under OAM_LEAST_OUT octets, before the frame is read, or a refusal 1 to 8 of the frame.
  */
@@ -490,9 +494,9 @@ uint64_t oam_write_organization(uint64_t source, uint16_t flags, uint32_t oui, c
                                 size_t octets_len, uint8_t *out, size_t out_len);
 
 /*
- * Reads a frame. Stores four numbers in the header: source, flags, code, and the number at the body's
- * start (event number, loopback command or OUI, else 0). Returns OAM_ACCEPTED, OAM_SHORT_OUTPUT for a
- * shorter header, before all, or a refusal 1 to 8 of the frame.
+ * Reads a frame. Stores five numbers in the header: source, flags, code, the number at the body's start
+ * (event number, loopback command or OUI, else 0), and how many TLVs were skipped. Returns OAM_ACCEPTED,
+ * OAM_SHORT_OUTPUT for a shorter header, before all, or a refusal 1 to 8 of the frame.
  */
 uint64_t oam_read(const uint8_t *frame, size_t frame_len, uint64_t *header, size_t header_len);
 
@@ -500,8 +504,9 @@ uint64_t oam_read(const uint8_t *frame, size_t frame_len, uint64_t *header, size
  * Reads a frame and its parts. Stores the header as oam_read does, and the parts in order as rows of
  * OAM_ROW_NUMBERS numbers, from the start of the slice. The first parts, as many as "first" says, are
  * passed over; of the others as many are stored as the slice holds whole rows, and what is behind them
- * stays as it was. TLVs of unknown type are no parts; Loopback Control and organization specific frames
- * have none. Returns an outcome with the count of all parts of the frame: accepted, OAM_SHORT_OUTPUT for a
+ * stays as it was. TLVs of unknown type are no parts: beside each part stands how many of them were skipped
+ * before it since the body's start, also where parts are passed over. Loopback Control and organization
+ * specific frames have no parts. Returns an outcome with the count of all parts of the frame: accepted, OAM_SHORT_OUTPUT for a
  * shorter header, before all, or a refusal 1 to 8 of the frame.
  */
 uint64_t oam_read_all(const uint8_t *frame, size_t frame_len, size_t first, uint64_t *header, size_t header_len,

@@ -11,19 +11,34 @@ use std::slice::ChunksExactMut;
 
 // The answer.
 
+/// One TLV skipped, in an answer: they are counted above its own 8 bits.
+const ONE_SKIPPED: u64 = 1 << ANSWER_BITS;
+const ANSWER_BITS: u32 = 8;
+
+/// The TLVs skipped in an accepted frame.
+#[inline(always)]
+pub fn skipped(answer: u64) -> u64 {
+    answer >> ANSWER_BITS
+}
+
+#[inline(always)]
+pub fn is_accepted(answer: u64) -> bool {
+    answer as u8 == answer::ACCEPTED
+}
+
 /// The answer to a frame: 1 to 5 in order, then the body in octet order.
-pub fn answer(frame: &[u8]) -> u8 {
+pub fn answer(frame: &[u8]) -> u64 {
     if !(SHORTEST..=LONGEST).contains(&frame.len()) {
-        return answer::LENGTH;
+        return answer::LENGTH.into();
     }
     if frame[..6] != DESTINATION {
-        return answer::DESTINATION;
+        return answer::DESTINATION.into();
     }
     if frame[12..14] != SLOW_PROTOCOLS {
-        return answer::TYPE;
+        return answer::TYPE.into();
     }
     if frame[14] != SUBTYPE {
-        return answer::SUBTYPE;
+        return answer::SUBTYPE.into();
     }
     match frame[17] {
         code::INFORMATION => answer_to_information(&frame[BODY..]),
@@ -31,52 +46,57 @@ pub fn answer(frame: &[u8]) -> u8 {
         code::REQUEST => answer_to_descriptors(&frame[BODY..]),
         code::RESPONSE => answer_to_containers(&frame[BODY..]),
         code::LOOPBACK => match frame[BODY] {
-            1 | 2 => answer::ACCEPTED,
-            _ => answer::COMMAND,
+            1 | 2 => answer::ACCEPTED.into(),
+            _ => answer::COMMAND.into(),
         },
-        code::ORGANIZATION => answer::ACCEPTED,
-        _ => answer::CODE,
+        code::ORGANIZATION => answer::ACCEPTED.into(),
+        _ => answer::CODE.into(),
     }
 }
 
-fn answer_to_information(body: &[u8]) -> u8 {
-    let (mut at, mut seen) = (0, 0);
+fn answer_to_information(body: &[u8]) -> u64 {
+    let (mut at, mut seen, mut answer) = (0, 0, answer::ACCEPTED.into());
     loop {
         let (kind, length) = match tlv(body, at) {
             Tlv::Is(kind, length) => (kind, length),
-            Tlv::End => return answer::ACCEPTED,
-            Tlv::Broken => return answer::BROKEN,
+            Tlv::End => return answer,
+            Tlv::Broken => return answer::BROKEN.into(),
         };
         if kind <= 2 {
             if length != 16 {
-                return answer::BROKEN;
+                return answer::BROKEN.into();
             }
             if seen & kind != 0 {
-                return answer::SECOND;
+                return answer::SECOND.into();
             }
             seen |= kind; // 1 and 2 are a bit each
+        } else {
+            answer += ONE_SKIPPED;
         }
         at += usize::from(length);
     }
 }
 
-fn answer_to_events(body: &[u8]) -> u8 {
-    let mut at = 0;
+fn answer_to_events(body: &[u8]) -> u64 {
+    let (mut at, mut answer) = (0, answer::ACCEPTED.into());
     loop {
         let (kind, length) = match tlv(body, at) {
             Tlv::Is(kind, length) => (kind, length),
-            Tlv::End => return answer::ACCEPTED,
-            Tlv::Broken => return answer::BROKEN,
+            Tlv::End => return answer,
+            Tlv::Broken => return answer::BROKEN.into(),
         };
         let right = match kind {
             1 => 40,
             2 => 26,
             3 => 28,
             4 => 18,
-            _ => length,
+            _ => {
+                answer += ONE_SKIPPED;
+                length
+            }
         };
         if length != right {
-            return answer::BROKEN;
+            return answer::BROKEN.into();
         }
         at += usize::from(length);
     }
@@ -102,25 +122,25 @@ fn tlv(body: &[u8], at: usize) -> Tlv {
 }
 
 /// The strides from part to part end in the body, at a branch 0 or just behind it.
-fn answer_to_descriptors(body: &[u8]) -> u8 {
+fn answer_to_descriptors(body: &[u8]) -> u64 {
     let mut at = 0;
     while at < body.len() {
         if body[at] == 0 {
-            return answer::ACCEPTED;
+            return answer::ACCEPTED.into();
         }
         at += 3;
     }
     ended(body, at)
 }
 
-fn answer_to_containers(body: &[u8]) -> u8 {
+fn answer_to_containers(body: &[u8]) -> u64 {
     let mut at = 0;
     while at < body.len() {
         if body[at] == 0 {
-            return answer::ACCEPTED;
+            return answer::ACCEPTED.into();
         }
         let Some(&width) = body.get(at + 3) else {
-            return answer::BROKEN;
+            return answer::BROKEN.into();
         };
         at += 4 + value_length(width);
     }
@@ -128,10 +148,10 @@ fn answer_to_containers(body: &[u8]) -> u8 {
 }
 
 #[inline(always)]
-fn ended(body: &[u8], at: usize) -> u8 {
+fn ended(body: &[u8], at: usize) -> u64 {
     match at == body.len() {
-        true => answer::ACCEPTED,
-        false => answer::BROKEN,
+        true => answer::ACCEPTED.into(),
+        false => answer::BROKEN.into(),
     }
 }
 
@@ -153,10 +173,11 @@ pub fn read(frame: &[u8], header: &mut [u64]) -> u64 {
         return answer::OUTPUT.into();
     };
     let answer = answer(frame);
-    if answer == answer::ACCEPTED {
-        store_header(frame, header);
+    if !is_accepted(answer) {
+        return answer;
     }
-    answer.into()
+    store_header(frame, answer, header);
+    answer::ACCEPTED.into()
 }
 
 /// As `Library::read_all`. A refusal must leave what is lent as it was, so that
@@ -166,10 +187,10 @@ pub fn read_all(frame: &[u8], first: usize, header: &mut [u64], rows: &mut [u64]
         return answer::OUTPUT.into();
     };
     let answer = answer(frame);
-    if answer != answer::ACCEPTED {
-        return answer.into();
+    if !is_accepted(answer) {
+        return answer;
     }
-    store_header(frame, header);
+    store_header(frame, answer, header);
     let mut rows = Rows {
         room: rows.chunks_exact_mut(ROW),
         first,
@@ -190,8 +211,8 @@ pub fn read_all(frame: &[u8], first: usize, header: &mut [u64], rows: &mut [u64]
 /// that this one has.
 pub fn descriptors(frame: &[u8], descriptors: &mut [u32]) -> u64 {
     let answer = answer(frame);
-    if answer != answer::ACCEPTED {
-        return answer.into();
+    if !is_accepted(answer) {
+        return answer;
     }
     if frame[17] != code::REQUEST {
         return answer::VALUES.into();
@@ -218,7 +239,7 @@ pub fn descriptors(frame: &[u8], descriptors: &mut [u32]) -> u64 {
 
 /// The header of an accepted frame.
 #[inline(always)]
-fn store_header(frame: &[u8], header: &mut [u64; HEADER]) {
+fn store_header(frame: &[u8], answer: u64, header: &mut [u64; HEADER]) {
     let f: &[u8; BODY + 3] = frame.first_chunk().expect("a frame has 60 octets");
     let number = match f[17] {
         code::NOTIFICATION => two(f, BODY),
@@ -227,7 +248,7 @@ fn store_header(frame: &[u8], header: &mut [u64; HEADER]) {
         _ => 0,
     };
     let source = u64::from_be_bytes([0, 0, f[6], f[7], f[8], f[9], f[10], f[11]]);
-    *header = [source, two(f, 15), f[17].into(), number];
+    *header = [source, two(f, 15), f[17].into(), number, skipped(answer)];
 }
 
 /// Room for rows, the first part that is stored in it, and how many were met.
@@ -251,22 +272,24 @@ impl Rows<'_> {
     }
 
     fn information(&mut self, frame: &[u8]) {
-        let mut at = BODY;
+        let (mut at, mut skipped) = (BODY, 0);
         while let [kind @ 1..=0xFF, length, ..] = frame[at..] {
             let (from, next) = (at, at + usize::from(length));
-            if let 1 | 2 = kind {
-                self.meet(|| information_row(kind, next, &frame[from..]));
+            match kind {
+                1 | 2 => self.meet(|| information_row(kind, next, skipped, &frame[from..])),
+                _ => skipped += 1,
             }
             at = next;
         }
     }
 
     fn events(&mut self, frame: &[u8]) {
-        let mut at = BODY + 2;
+        let (mut at, mut skipped) = (BODY + 2, 0);
         while let [kind @ 1..=0xFF, length, ..] = frame[at..] {
             let (from, next) = (at, at + usize::from(length));
-            if let 1..=4 = kind {
-                self.meet(|| event_row(kind, next, &frame[from..]));
+            match kind {
+                1..=4 => self.meet(|| event_row(kind, next, skipped, &frame[from..])),
+                _ => skipped += 1,
             }
             at = next;
         }
@@ -277,17 +300,8 @@ impl Rows<'_> {
         while let Some(octets @ [1..=0xFF, _, _]) = frame[at..].first_chunk() {
             at += 3;
             self.meet(|| {
-                [
-                    kind::DESCRIPTOR,
-                    at as u64,
-                    three(octets, 0),
-                    0,
-                    0,
-                    0,
-                    0,
-                    0,
-                    0,
-                ]
+                let name = three(octets, 0);
+                [kind::DESCRIPTOR, at as u64, 0, name, 0, 0, 0, 0, 0, 0]
             });
         }
     }
@@ -303,18 +317,19 @@ impl Rows<'_> {
                     _ => (kind::VALUE, start as u64),
                 };
                 let name = three(octets, 0);
-                [kind, at as u64, name, second, length as u64, 0, 0, 0, 0]
+                [kind, at as u64, 0, name, second, length as u64, 0, 0, 0, 0]
             });
         }
     }
 }
 
 #[inline(always)]
-fn information_row(kind: u8, next: usize, octets: &[u8]) -> [u64; ROW] {
+fn information_row(kind: u8, next: usize, skipped: u64, octets: &[u8]) -> [u64; ROW] {
     let t: &[u8; 16] = octets.first_chunk().expect("the TLV is whole");
     [
         kind::LOCAL - 1 + u64::from(kind),
         next as u64,
+        skipped,
         t[2].into(),
         two(t, 3),
         t[5].into(),
@@ -326,7 +341,7 @@ fn information_row(kind: u8, next: usize, octets: &[u8]) -> [u64; ROW] {
 }
 
 #[inline(always)]
-fn event_row(kind: u8, next: usize, octets: &[u8]) -> [u64; ROW] {
+fn event_row(kind: u8, next: usize, skipped: u64, octets: &[u8]) -> [u64; ROW] {
     let [window, threshold, errors, error_total, event_total] = match kind {
         1 => symbol_period(octets.first_chunk().expect("the TLV is whole")),
         2 => frames(octets.first_chunk().expect("the TLV is whole")),
@@ -336,6 +351,7 @@ fn event_row(kind: u8, next: usize, octets: &[u8]) -> [u64; ROW] {
     [
         kind::EVENT,
         next as u64,
+        skipped,
         kind.into(),
         two(octets, 2),
         window,

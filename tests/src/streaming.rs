@@ -110,35 +110,35 @@ impl Lister {
     }
 
     fn end_line(&mut self) {
-        match self.answer() {
-            answer::ACCEPTED => {
-                let flags = u16::from_be_bytes([self.frame[15], self.frame[16]]);
-                self.put_decimal(self.number);
-                self.rows.push(b'\t');
-                self.put_decimal(self.frame[17].into());
-                self.rows.push(b'\t');
-                self.put_decimal(flags.into());
-                self.rows.extend_from_slice(b"\t0\n");
-            }
-            refusal => {
-                self.put_decimal(self.number);
-                self.rows.extend_from_slice(b"\t-\t-\t");
-                self.put_decimal(refusal.into());
-                self.rows.push(b'\n');
-            }
+        let answer = self.answer();
+        self.put_decimal(self.number);
+        if by_hand::is_accepted(answer) {
+            let flags = u16::from_be_bytes([self.frame[15], self.frame[16]]);
+            self.rows.push(b'\t');
+            self.put_decimal(self.frame[17].into());
+            self.rows.push(b'\t');
+            self.put_decimal(flags.into());
+            self.rows.extend_from_slice(b"\t0\t");
+            self.put_decimal(by_hand::skipped(answer));
+            self.rows.push(b'\n');
+        } else {
+            self.rows.extend_from_slice(b"\t-\t-\t");
+            self.put_decimal(answer);
+            self.rows.extend_from_slice(b"\t-\n");
         }
         self.characters = 0;
         self.foreign = false;
         self.number += 1;
     }
 
-    fn answer(&self) -> u8 {
+    /// As `by_hand` answers.
+    fn answer(&self) -> u64 {
         if self.foreign || self.characters % 2 == 1 {
-            return answer::TEXT;
+            return answer::TEXT.into();
         }
         match self.frame.get(..self.characters / 2) {
             Some(frame) => by_hand::answer(frame),
-            None => answer::LENGTH,
+            None => answer::LENGTH.into(),
         }
     }
 
@@ -238,7 +238,7 @@ mod tests {
         let input = format!("{}g\n", "0".repeat(99_999));
         assert_eq!(
             listed(input.as_bytes(), PIECE),
-            b"no\tcode\tflags\tanswer\n1\t-\t-\t14\n"
+            b"no\tcode\tflags\tanswer\tskipped\n1\t-\t-\t14\t-\n"
         );
     }
 

@@ -1,11 +1,12 @@
 //! The archive's header and the Rattle sources, held together: the octets of a state, the places of the numbers that `oam_show`
 //! stores, the lengths of frames, the most of what a response holds, the bounds of windows; the header and the independent
-//! implementation: the places of a watch's numbers, the numbers of events that arise, and the bits of an outcome; and the
-//! header's version, which every change request raises.
+//! implementation: the places of a watch's numbers, the numbers of events that arise, those of a frame's header and of a row,
+//! and the bits of an outcome; and the header's version, which every change request raises.
 
 mod sources;
 
-use oam_tests::library::machine::{Outcome, ARISEN, SHOWN_NUMBERS};
+use oam_tests::library::machine::{Outcome, ARISEN, RECEIVED, SHOWN_NUMBERS};
+use oam_tests::library::{HEADER, HEADER_SKIPPED, ROW, ROW_PART, ROW_SKIPPED};
 use oam_tests::paper;
 use oam_tests::paper::machine::END_NUMBERS;
 use oam_tests::paper::windows::{WatchNumbers, WATCH_NUMBERS};
@@ -223,6 +224,22 @@ fn the_numbers_of_a_watch_stand_where_the_header_says() {
     assert_eq!(named["OAM_SHOWN_NUMBERS"], SHOWN_NUMBERS as u64);
     assert_eq!(named["OAM_ARISEN_NUMBERS"], ARISEN as u64);
     assert_eq!(named["OAM_ARISEN_NUMBERS"], 2 * named["OAM_EVENT_NUMBERS"]);
+}
+
+#[test]
+fn a_frames_header_and_a_row_are_as_the_header_says() {
+    let header = text(&repository().join("include/oam.h"));
+    let named = named_in_header(&header);
+    for (name, own) in [
+        ("OAM_HEADER_NUMBERS", HEADER),
+        ("OAM_HEADER_NUMBERS", RECEIVED),
+        ("OAM_HEADER_SKIPPED", HEADER_SKIPPED),
+        ("OAM_ROW_NUMBERS", ROW),
+        ("OAM_ROW_SKIPPED", ROW_SKIPPED),
+        ("OAM_ROW_PART", ROW_PART),
+    ] {
+        assert_eq!(named.get(name), Some(&(own as u64)), "{name}");
+    }
 }
 
 /// Where a function of the header takes its number from an outcome: the lowest bit, and the mask above it.

@@ -34,9 +34,9 @@ module _ (f : List ℕ) where
   number-by l (organization oui x) e h = rw (l, e) (sym (h .0))
 
   module _ (m : Message) (d : decode f ≡ accepted m) where
-    pub header-agrees : headerOf f ≡ headerIn m
+    pub header-agrees : headerOf f (m .skipped) ≡ headerIn m
     unfolding headerOf
-    header-agrees = let s = shown f m d in rw (long (s .passed)) (λ i. record { source = s .source i; flags = s .flags i; code = s .code i })
+    header-agrees = let s = shown f m d in rw (long (s .passed)) (λ i. record { source = s .source i; flags = s .flags i; code = s .code i; skipped = m .skipped })
 
     pub number-agrees : fixedNumber f ≡ numberIn (m .body)
     number-agrees = let s = shown f m d in number-by (long (s .passed)) (m .body) (s .code) (s .body)
@@ -66,26 +66,28 @@ module _ (f : List ℕ) where
     pub local-agrees : localAt (drop bodyStart f) (placeIn (drop bodyStart f) (m .body)) ≡ localOf (m .body)
     local-agrees = local-by (m .body) refl
 
--- what is taken from the octets of an accepted frame, its Local from where it is judged to stand, is what its message says
-pub record Agrees (f : List ℕ) (at : ℕ) (m : Message) : Type 0 where
+-- what is taken from the octets of an accepted frame, its Local from where it is judged to stand, is what its message says, and
+-- so many TLVs were skipped as it says
+pub record Agrees (f : List ℕ) (at skipped : ℕ) (m : Message) : Type 0 where
   pub decoded : decode f ≡ accepted m
-  pub header : headerOf f ≡ headerIn m
+  pub header : headerOf f skipped ≡ headerIn m
   pub number : fixedNumber f ≡ numberIn (m .body)
   pub local : localAt (drop bodyStart f) at ≡ localOf (m .body)
 
 module _ (f : List ℕ) where
-  pub judged-accepted : (at : ℕ) → judgementOf f ≡ Accepted at → (m : Message) × Agrees f at m
+  pub judged-accepted : (at skipped : ℕ) → judgementOf f ≡ Accepted at skipped → (m : Message) × Agrees f at skipped m
   unfolding judgementOf
-  judged-accepted at = go (decode f) refl
+  judged-accepted at skipped = go (decode f) refl
     where
-      go : (a : Answer) → decode f ≡ a → judgement f a ≡ Accepted at → (m : Message) × Agrees f at m
+      go : (a : Answer) → decode f ≡ a → judgement f a ≡ Accepted at skipped → (m : Message) × Agrees f at skipped m
       go (refused n) d e = let z : _≡_ {A = ℕ} 0 1 = cc in absurd (omega arith)
       go (accepted m) d e =
-          let there : placeIn (drop bodyStart f) (m .body) ≡ at = cc in (
+          let there : placeIn (drop bodyStart f) (m .body) ≡ at = cc in
+          let many : m .skipped ≡ skipped = cc in (
             m,
             record {
               decoded = d;
-              header = header-agrees f m d;
+              header = ap (headerOf f) (sym many) ∙ header-agrees f m d;
               number = number-agrees f m d;
               local = subst (λ (n : ℕ). localAt (drop bodyStart f) n ≡ localOf (m .body)) there (local-agrees f m d);
             },

@@ -10,12 +10,12 @@ use lib.ListN.{length, getD, drop}
 use lib.Dec.{ltb, eqb}
 use Rattle.octets.specs.Octets.{num}
 use Rattle.octets.specs.Layout.{shortestFrame, longestFrame, destination, lengthType, subtype, bodyStart, eventsStart, dataStart}
-use Rattle.frame_tlvs.specs.Walk.{Walk, ends, breaks, over, part, met, Parsed, refused as unread, parts, also, listed}
+use Rattle.frame_tlvs.specs.Walk.{Walk, ends, breaks, over, part, met, Parsed, refused as unread, parts, also, listed, skippedIn}
 use Rattle.frame_body.specs.Information.{InformationPart, local, remote, informationWalk, informationParts}
 use Rattle.frame_tlvs.specs.Events.{eventWalk}
 use Rattle.frame_body.specs.Variables.{descriptorWalk, containerWalk}
 use Rattle.frame.specs.Frame.{Body, Message, codeOf, Answer, refused, accepted, information, notification, request, response, loopback, organization, says, saysAll, headerAnswer, bodyAnswer, decode}
-use Rattle.frame.specs.Steps.{Stepped}
+use Rattle.frame.specs.Steps.{Stepped, skippedBy}
 use Rattle.octets.proofs.Bools.{by-cond}
 
 -- the number of a frame's refusal
@@ -53,6 +53,7 @@ pub record Shown (f : List ℕ) (m : Message) : Type 0 where
   pub flags : num 2 f 15 ≡ m .flags
   pub code : getD f 17 0 ≡ codeOf (m .body)
   pub body : Stepped f (m .body)
+  pub skipped : m .skipped ≡ skippedBy f (m .body)
 
 module _ (f : List ℕ) where
   abbrev Tells : Answer → Type 0
@@ -69,13 +70,15 @@ module _ (f : List ℕ) where
       by-cond P (not (eqb (getD f 14 0) subtype)) (λ _ _. (omega arith, omega arith)) (λ _ z. absurd (z refl)))))
 
   module _ (h : headerAnswer f ≡ 0) where
-    tells : (b : Body) → eqb (getD f 17 0) (codeOf b) ≡ true → Stepped f b → Tells (says f b)
-    tells b t s = record { passed = h; source = refl; flags = refl; code = eqb-true (getD f 17 0) (codeOf b) t; body = s }
+    tells : (skipped : ℕ) (b : Body) → eqb (getD f 17 0) (codeOf b) ≡ true → Stepped f b → skipped ≡ skippedBy f b → Tells (says f skipped b)
+    tells skipped b t s k =
+        record { passed = h; source = refl; flags = refl; code = eqb-true (getD f 17 0) (codeOf b) t; body = s; skipped = k }
 
-    tells-all : {P : Type 0} (make : List P → Body) (w : Walk P) (x : Parsed P) → Parses (met w) x
-        → ((ps : List P) → eqb (getD f 17 0) (codeOf (make ps)) ≡ true) → ((ps : List P) → ps ≡ met w → Stepped f (make ps)) → Tells (saysAll f make x)
-    tells-all make w (unread n) p t s = p
-    tells-all make w (parts ps) p t s = tells (make ps) (t ps) (s ps p)
+    tells-all : {P : Type 0} (skipped : ℕ) (make : List P → Body) (w : Walk P) (x : Parsed P) → Parses (met w) x
+        → ((ps : List P) → eqb (getD f 17 0) (codeOf (make ps)) ≡ true) → ((ps : List P) → ps ≡ met w → Stepped f (make ps))
+        → ((ps : List P) → skipped ≡ skippedBy f (make ps)) → Tells (saysAll f skipped make x)
+    tells-all skipped make w (unread n) p t s k = p
+    tells-all skipped make w (parts ps) p t s k = tells skipped (make ps) (t ps) (s ps p) (k ps)
 
     body-tells : Tells (bodyAnswer f (getD f 17 0))
     unfolding bodyAnswer
@@ -86,12 +89,12 @@ module _ (f : List ℕ) where
         let e = eventWalk (drop eventsStart f) in
         let d = descriptorWalk (drop bodyStart f) in
         let c = containerWalk (drop bodyStart f) in
-        by-cond Tells (eqb code 0) (λ t. tells-all information i (informationParts false false i) (parses-information false false i) (λ _. t) (λ _ s. s)) (λ _.
-        by-cond Tells (eqb code 1) (λ t. tells-all (notification (num 2 f bodyStart)) e (listed e) (parses-listed e) (λ _. t) (λ _ s. (refl, s))) (λ _.
-        by-cond Tells (eqb code 2) (λ t. tells-all request d (listed d) (parses-listed d) (λ _. t) (λ _ s. s)) (λ _.
-        by-cond Tells (eqb code 3) (λ t. tells-all response c (listed c) (parses-listed c) (λ _. t) (λ _ s. s)) (λ _.
-        by-cond Tells (eqb code 4) (λ t. by-cond Tells (eqb command 1 || eqb command 2) (λ _. tells (loopback command) t refl) (λ _. (omega arith, omega arith))) (λ _.
-        by-cond Tells (eqb code 0xfe) (λ t. tells (organization (num 3 f bodyStart) (drop dataStart f)) t (refl, refl)) (λ _. (omega arith, omega arith)))))))
+        by-cond Tells (eqb code 0) (λ t. tells-all (skippedIn i) information i (informationParts false false i) (parses-information false false i) (λ _. t) (λ _ s. s) (λ _. refl)) (λ _.
+        by-cond Tells (eqb code 1) (λ t. tells-all (skippedIn e) (notification (num 2 f bodyStart)) e (listed e) (parses-listed e) (λ _. t) (λ _ s. (refl, s)) (λ _. refl)) (λ _.
+        by-cond Tells (eqb code 2) (λ t. tells-all 0 request d (listed d) (parses-listed d) (λ _. t) (λ _ s. s) (λ _. refl)) (λ _.
+        by-cond Tells (eqb code 3) (λ t. tells-all 0 response c (listed c) (parses-listed c) (λ _. t) (λ _ s. s) (λ _. refl)) (λ _.
+        by-cond Tells (eqb code 4) (λ t. by-cond Tells (eqb command 1 || eqb command 2) (λ _. tells 0 (loopback command) t refl refl) (λ _. (omega arith, omega arith))) (λ _.
+        by-cond Tells (eqb code 0xfe) (λ t. tells 0 (organization (num 3 f bodyStart) (drop dataStart f)) t (refl, refl) refl) (λ _. (omega arith, omega arith)))))))
 
   answer-tells : Tells (decode f)
   unfolding decode
@@ -104,6 +107,10 @@ module _ (f : List ℕ) where
   -- taking the steps of a body from its start gives exactly the parts of the message that the frame says
   pub steps-give-parts : (m : Message) → decode f ≡ accepted m → Stepped f (m .body)
   steps-give-parts m e = shown m e .body
+
+  -- a message tells how many TLVs the walk over its body skips, 0 where it has none
+  pub decode-counts : (m : Message) → decode f ≡ accepted m → m .skipped ≡ skippedBy f (m .body)
+  decode-counts m e = shown m e .skipped
 
   -- a refused frame is answered one of the paper's numbers 1 to 8
   pub refused-number : (n : ℕ) → decode f ≡ refused n → (1 ≤ n) × (n ≤ 8)

@@ -6,7 +6,7 @@ use lib.ListN.{length, getD, drop}
 use lib.Dec.{ltb, eqb}
 use Rattle.octets.specs.Octets.{num}
 use Rattle.octets.specs.Layout.{shortestFrame, longestFrame, destination, lengthType, subtype, bodyStart, eventsStart, dataStart}
-use Rattle.frame_tlvs.specs.Walk.{Parsed, refused as unread, parts, listed}
+use Rattle.frame_tlvs.specs.Walk.{Walk, Parsed, refused as unread, parts, listed, skippedIn}
 use Rattle.frame_body.specs.Information.{InformationPart, informationWalk, informationParts, localIn}
 use Rattle.frame_body.specs.Judging.{localPlace}
 use Rattle.frame_tlvs.specs.Events.{eventWalk}
@@ -28,10 +28,11 @@ pub data Body : Type 0 where
   loopback : ℕ → Body
   organization : ℕ → List ℕ → Body
 
--- "A reading shows source address, flags, code and the body's parts in order."
+-- "A reading shows source address, flags, code and the body's parts in order." Beside the parts it tells how many TLVs were skipped.
 pub record Message : Type 0 where
   pub source : ℕ
   pub flags : ℕ
+  pub skipped : ℕ
   pub body : Body
 
 abbrev pub codeOf : Body → ℕ
@@ -57,24 +58,31 @@ headerAnswer f =
     0)))
 
 -- "Destination 6, source 6, type 2, subtype 1, flags 2, code 1; the body starts at octet 18."
-abbrev pub says : List ℕ → Body → Answer
-says f b = accepted (record { source = num 6 f 6; flags = num 2 f 15; body = b })
+abbrev pub says : List ℕ → ℕ → Body → Answer
+says f skipped b = accepted (record { source = num 6 f 6; flags = num 2 f 15; skipped = skipped; body = b })
 
-abbrev pub saysAll : {P : Type 0} → List ℕ → (List P → Body) → Parsed P → Answer
-saysAll f make (unread n) = refused n
-saysAll f make (parts ps) = says f (make ps)
+abbrev pub saysAll : {P : Type 0} → List ℕ → ℕ → (List P → Body) → Parsed P → Answer
+saysAll f skipped make (unread n) = refused n
+saysAll f skipped make (parts ps) = says f skipped (make ps)
+
+-- the walks over the TLVs of codes 00 and 01, whose numbers of skipped TLVs are told
+abbrev pub informed : List ℕ → Walk InformationPart → Answer
+informed f w = saysAll f (skippedIn w) information (informationParts false false w)
+
+abbrev pub notified : List ℕ → Walk Event → Answer
+notified f w = saysAll f (skippedIn w) (notification (num 2 f bodyStart)) (listed w)
 
 -- The body by its code. "The TLV walk begins at octet 18, or 20 after a sequence number (2 octets, code 01)." "Code FE: OUI
 -- 3; the reading shows the organization's data as that part of the caller's frame from octet 21 to the end, padding
 -- included." "loopback command is not 1 or 2" is 8, "code is 05 to FD, or FF" is 5.
 unfoldable pub bodyAnswer : List ℕ → ℕ → Answer
 bodyAnswer f code =
-    cond (eqb code 0) (saysAll f information (informationParts false false (informationWalk (drop bodyStart f))))
-    (cond (eqb code 1) (saysAll f (notification (num 2 f bodyStart)) (listed (eventWalk (drop eventsStart f))))
-    (cond (eqb code 2) (saysAll f request (listed (descriptorWalk (drop bodyStart f))))
-    (cond (eqb code 3) (saysAll f response (listed (containerWalk (drop bodyStart f))))
-    (cond (eqb code 4) (cond (eqb (getD f bodyStart 0) 1 || eqb (getD f bodyStart 0) 2) (says f (loopback (getD f bodyStart 0))) (refused 8))
-    (cond (eqb code 0xfe) (says f (organization (num 3 f bodyStart) (drop dataStart f)))
+    cond (eqb code 0) (informed f (informationWalk (drop bodyStart f)))
+    (cond (eqb code 1) (notified f (eventWalk (drop eventsStart f)))
+    (cond (eqb code 2) (saysAll f 0 request (listed (descriptorWalk (drop bodyStart f))))
+    (cond (eqb code 3) (saysAll f 0 response (listed (containerWalk (drop bodyStart f))))
+    (cond (eqb code 4) (cond (eqb (getD f bodyStart 0) 1 || eqb (getD f bodyStart 0) 2) (says f 0 (loopback (getD f bodyStart 0))) (refused 8))
+    (cond (eqb code 0xfe) (says f 0 (organization (num 3 f bodyStart) (drop dataStart f)))
     (refused 5))))))
 
 -- "Reading: 1 to 5 in order, then the body in octet order; at one TLV 6 comes before 7."
@@ -90,10 +98,10 @@ placeIn s (response cs) = length s
 placeIn s (loopback n) = length s
 placeIn s (organization oui x) = length s
 
--- what a frame comes to: its answer, and where the Local TLV stands in its body
+-- what a frame comes to: its answer, where the Local TLV stands in its body, and how many TLVs were skipped
 abbrev pub judgement : List ℕ → Answer → Judgement
 judgement f (refused n) = Refused n
-judgement f (accepted m) = Accepted (placeIn (drop bodyStart f) (m .body))
+judgement f (accepted m) = Accepted (placeIn (drop bodyStart f) (m .body)) (m .skipped)
 
 unfoldable pub judgementOf : List ℕ → Judgement
 judgementOf f = judgement f (decode f)
@@ -101,13 +109,13 @@ judgementOf f = judgement f (decode f)
 -- ---- What a message says at fixed octets, and the octets themselves. That they agree is shown in proofs/Judging.antt.
 
 abbrev pub headerIn : Message → Header
-headerIn m = record { source = m .source; flags = m .flags; code = codeOf (m .body) }
+headerIn m = record { source = m .source; flags = m .flags; code = codeOf (m .body); skipped = m .skipped }
 
--- zeros where a frame is shorter than any that is accepted
-unfoldable pub headerOf : List ℕ → Header
-headerOf f =
-    cond (ltb (length f) shortestFrame) (record { source = 0; flags = 0; code = 0 })
-    (record { source = num 6 f 6; flags = num 2 f 15; code = getD f 17 0 })
+-- zeros where a frame is shorter than any that is accepted; the number of skipped TLVs is the judge's
+unfoldable pub headerOf : List ℕ → ℕ → Header
+headerOf f skipped =
+    cond (ltb (length f) shortestFrame) (record { source = 0; flags = 0; code = 0; skipped = skipped })
+    (record { source = num 6 f 6; flags = num 2 f 15; code = getD f 17 0; skipped = skipped })
 
 -- the number of a notification and the command of a Loopback Control frame
 unfoldable pub eventNumber : List ℕ → ℕ

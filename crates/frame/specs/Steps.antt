@@ -1,11 +1,11 @@
--- What a caller meets who takes the steps of a body from its start.
+-- What a caller meets who takes the steps of a body from its start, and how many TLVs are skipped there.
 use Prim.Native.Nat.{ℕ}
 use mathlib.Core.Path.{_≡_}
 use mathlib.Core.List.{List}
 use lib.ListN.{getD, drop}
 use Rattle.octets.specs.Octets.{num}
 use Rattle.octets.specs.Layout.{bodyStart, eventsStart, dataStart}
-use Rattle.frame_tlvs.specs.Walk.{met}
+use Rattle.frame_tlvs.specs.Walk.{met, skippedIn}
 use Rattle.frame_body.specs.Information.{informationWalk}
 use Rattle.frame_tlvs.specs.Events.{eventWalk}
 use Rattle.frame_body.specs.Variables.{descriptorWalk, containerWalk}
@@ -20,3 +20,12 @@ Stepped f (request ds) = ds ≡ met (descriptorWalk (drop bodyStart f))
 Stepped f (response cs) = cs ≡ met (containerWalk (drop bodyStart f))
 Stepped f (loopback n) = n ≡ getD f bodyStart 0
 Stepped f (organization oui x) = (oui ≡ num 3 f bodyStart) × (x ≡ drop dataStart f)
+
+-- how many TLVs are skipped in the body of a frame; bodies of other codes have no TLVs
+abbrev pub skippedBy : List ℕ → Body → ℕ
+skippedBy f (information ps) = skippedIn (informationWalk (drop bodyStart f))
+skippedBy f (notification n es) = skippedIn (eventWalk (drop eventsStart f))
+skippedBy f (request ds) = 0
+skippedBy f (response cs) = 0
+skippedBy f (loopback n) = 0
+skippedBy f (organization oui x) = 0

@@ -19,11 +19,13 @@ pub use parts::events_body;
 pub use parts::organization_data;
 pub use reader::judgement_of;
 
-// What stands before every body: the source address as a number, the flags (all sixteen bits) and the code.
+// What is shown of every accepted frame: the source address as a number, the flags (all sixteen bits), the code, and how many
+// TLVs were skipped.
 pub struct Header {
     pub source: u64,
     pub flags: u16,
     pub code: u8,
+    pub skipped: u16,
 }
 
 // The named bits and fields of a flags number.
@@ -36,8 +38,8 @@ pub struct Flags {
 }
 
 // What a frame comes to: the number of its refusal, or where the Local TLV stands in its body, the body's length where it has
-// none.
+// none, and how many TLVs were skipped.
 pub enum Judgement {
     Refused(u8),
-    Accepted(usize),
+    Accepted(usize, u16),
 }

@@ -4,15 +4,17 @@ ghost use Rattle.frame.specs.Frame.{headerOf, eventNumber, commandOf, fi
 use crate::Header;
 use octets::BODY_START;
 
-// What stands before the body; zeros where a frame is too short to be accepted.
-pub fn header_of(frame: &[u8]) -> Header
-    ensures { λ r. ⌜ r ≡ headerOf (now (frame .entry)) ⌝ }
+// What is shown of a frame in which so many TLVs were skipped: what stands before the body, zeros where it is too short to be
+// accepted, and that number, which is the judge's.
+pub fn header_of(frame: &[u8], skipped: u16) -> Header
+    ensures { λ r. ⌜ r ≡ headerOf (now (frame .entry)) skipped ⌝ }
 {
     if frame.len() < octets::SHORTEST_FRAME {
         return Header {
             source: 0,
             flags: 0,
             code: 0,
+            skipped,
         };
     }
     // the source's low octets before its high ones: the compiler then takes those four at once
@@ -22,6 +24,7 @@ pub fn header_of(frame: &[u8]) -> Header
         source: (high as u64) * 0x100000000 + (low as u64),
         flags: octets::join_two(frame[15], frame[16]),
         code: frame[17],
+        skipped,
     }
 }
 

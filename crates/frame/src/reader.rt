@@ -4,11 +4,12 @@ ghost use Prim.Native.Nat.{_≤_};
 ghost use lib.ListN.{length};
 ghost use Rattle.octets.specs.Layout.{shortestFrame};
 ghost use Rattle.frame.specs.Frame.{headerAnswer, judgementOf};
-ghost use Rattle.frame.specs.Reader.{listAnswer, commandAnswer, otherAnswer, otherJudgement, informationJudgement, bodyJudgement};
+ghost use Rattle.frame.specs.Reader.{listAnswer, commandAnswer, otherAnswer, otherJudgement, sixteenBits, eventsJudgement, informationJudgement, bodyJudgement};
 use crate::Judgement;
 use crate::parts::body;
 use crate::parts::events_body;
 use frame_body::Judged;
+use frame_body::JudgedEvents;
 use frame_body::ListKind;
 
 // The tests 1 to 4 in order: the number of the first that fails, or 0.
@@ -55,13 +56,12 @@ fn command_answer(command: u8) -> u8
     if command == 2 { 0 } else { 8 }
 }
 
-// The answer to the body of a code other than 00.
+// The answer to the body of a code other than 00 and 01: no TLVs stand in it.
 fn other_answer(frame: &[u8], code: u8) -> u8
     requires { ⌜ shortestFrame ≤ length (now frame) ⌝ }
     ensures { λ r. ⌜ r ≡ otherAnswer (now (frame .entry)) code ⌝ }
 {
     match code {
-        1 => list_answer(frame_body::is_whole(ListKind::Events, events_body(frame))),
         2 => list_answer(frame_body::is_whole(ListKind::Descriptors, body(frame))),
         3 => list_answer(frame_body::is_whole(ListKind::Containers, body(frame))),
         4 => command_answer(frame[octets::BODY_START]),
@@ -70,14 +70,36 @@ fn other_answer(frame: &[u8], code: u8) -> u8
     }
 }
 
-// An answer to a body of some octets that has no Local TLV.
+// An answer to a body of some octets that has no TLV.
 fn other_judgement(answer: u8, octets: usize) -> Judgement
     ensures { λ r. ⌜ r ≡ otherJudgement answer octets ⌝ }
 {
     if answer == 0 {
-        Judgement::Accepted(octets)
+        Judgement::Accepted(octets, 0)
     } else {
         Judgement::Refused(answer)
+    }
+}
+
+// A number of skipped TLVs in sixteen bits, which is more than a frame has room for: a judgement and a header are handed on in two
+// words so.
+fn sixteen_bits(skipped: usize) -> u16
+    ensures { λ r. ⌜ r ≡ sixteenBits skipped ⌝ }
+{
+    if skipped < 0xffff {
+        skipped as u16
+    } else {
+        0xffff
+    }
+}
+
+// What a notification comes to by its events. Its body of some octets has no Local TLV.
+fn events_judgement(events: JudgedEvents, octets: usize) -> Judgement
+    ensures { λ r. ⌜ r ≡ eventsJudgement events octets ⌝ }
+{
+    match events {
+        JudgedEvents::Broken => Judgement::Refused(6),
+        JudgedEvents::Whole(skipped) => Judgement::Accepted(octets, sixteen_bits(skipped)),
     }
 }
 
@@ -86,7 +108,7 @@ fn information_judgement(judged: Judged) -> Judgement
 {
     match judged {
         Judged::Refused(answer) => Judgement::Refused(answer),
-        Judged::Whole(at) => Judgement::Accepted(at),
+        Judged::Whole(at, skipped) => Judgement::Accepted(at, sixteen_bits(skipped)),
     }
 }
 
@@ -95,13 +117,15 @@ fn body_judgement(frame: &[u8]) -> Judgement
     ensures { λ r. ⌜ r ≡ bodyJudgement (now (frame .entry)) ⌝ }
 {
     let code = frame[17];
-    if code == 0 {
-        return information_judgement(frame_body::judged_information(body(frame)));
+    let octets = frame.len() - octets::BODY_START;
+    match code {
+        0 => information_judgement(frame_body::judged_information(body(frame))),
+        1 => events_judgement(frame_body::judged_events(events_body(frame)), octets),
+        _ => other_judgement(other_answer(frame, code), octets),
     }
-    other_judgement(other_answer(frame, code), frame.len() - octets::BODY_START)
 }
 
-// The number of a frame's refusal, or that it is accepted, with where its Local TLV stands.
+// The number of a frame's refusal, or that it is accepted, with where its Local TLV stands and how many TLVs were skipped.
 pub fn judgement_of(frame: &[u8]) -> Judgement
     ensures { λ r. ⌜ r ≡ judgementOf (now (frame .entry)) ⌝ }
 {

@@ -4,12 +4,13 @@ use Prim.Native.Nat.{ℕ, zero, suc, _+_, _<_, _≤_}
 use mathlib.Core.Path.{_≡_, refl, sym, ap, _∙_}
 use mathlib.Core.Bool.{Bool, true, false, cond}
 use mathlib.Core.List.{List}
+use native.Mathlib.Nat.{add-zero, zero-add}
 use native.Mathlib.Omega.{arith}
 use borrow.Author.Tests.{ltb-false, lt-ltb, le-ltb, eq-eqb, ne-eqb}
 use lib.ListN.{length, getD}
 use lib.Dec.{ltb, eqb}
 use Rattle.frame_tlvs.specs.Tlvs.{markAt}
-use Rattle.frame_tlvs.specs.Walk.{Walk, part, onNext, walk, met, Parsed, refused, parts, also}
+use Rattle.frame_tlvs.specs.Walk.{Walk, over, part, onNext, walk, met, skippedIn, Parsed, refused, parts, also}
 use Rattle.frame_body.specs.Information.{informationAt, stepOf, informationStep, InformationPart, local, remote, nextOf, informationWalk, informationParts, localIn}
 use Rattle.frame_body.specs.Judging.{localNext, localPlace, judged, judgedInformation, localAt}
 use Rattle.frame_tlvs.specs.declared.Mark.{Mark}
@@ -66,9 +67,9 @@ local-held s at i n = by-mark (markAt InformationKind s at) (mark-within Informa
         (λ _ h. cc) (λ _ h. let z : _≡_ {A = ℕ} 0 1 = cc in absurd (omega arith)) e)
 
 -- a part more is judged as the rest
-judged-also : (place : ℕ) (p : InformationPart) (w : Parsed InformationPart) → judged place (also p w) ≡ judged place w
-judged-also place p (refused n) = refl
-judged-also place p (parts ps) = refl
+judged-also : (place skipped : ℕ) (p : InformationPart) (w : Parsed InformationPart) → judged place skipped (also p w) ≡ judged place skipped w
+judged-also place skipped p (refused n) = refl
+judged-also place skipped p (parts ps) = refl
 
 module _ (s : List ℕ) where
   -- the walk over the parts and the walk over the places of Locals, from an octet
@@ -81,64 +82,91 @@ module _ (s : List ℕ) where
   -- ---- the judge's loop
 
   -- what the body comes to by what is left of it, where a Local was met at octet `place`, or none where that is the body's
-  -- length, and `r` says whether a Remote was
-  abbrev judgedLeft : ℕ → Bool → Walk ℕ → Walk InformationPart → Judged
-  judgedLeft place r places w =
-      let l = ltb place (length s) in judged (cond l place (getD (met places) 0 (length s))) (informationParts l r w)
+  -- length, `r` says whether a Remote was, and so many TLVs were skipped
+  abbrev judgedLeft : ℕ → Bool → ℕ → Walk ℕ → Walk InformationPart → Judged
+  judgedLeft place r skipped places w =
+      let l = ltb place (length s) in judged (cond l place (getD (met places) 0 (length s))) (skipped + skippedIn w) (informationParts l r w)
 
   -- what holds at each turn
-  pub record Going (at place : ℕ) (r : Bool) : Type 0 where
+  pub record Going (at place : ℕ) (r : Bool) (skipped : ℕ) : Type 0 where
     pub upto : place ≤ length s
+    pub few : skipped ≤ at
     pub steps : ℕ
     pub enough : length s ≤ at + steps
-    pub rest : judgedLeft place r (placesLeft steps at) (left steps at) ≡ judgedInformation s
+    pub rest : judgedLeft place r skipped (placesLeft steps at) (left steps at) ≡ judgedInformation s
 
-  pub start : Going 0 (length s) false
+  pub start : Going 0 (length s) false 0
   unfolding judgedInformation informationWalk localPlace
   start =
       record {
         upto = omega arith;
+        few = omega arith;
         steps = length s;
         enough = omega arith;
-        rest = rw (le-ltb (length s) (length s) (omega arith));
+        rest = rw (le-ltb (length s) (length s) (omega arith), zero-add (skippedIn (left (length s) 0)));
       }
 
   -- what a known TLV comes to, by the loop's own tests
-  pub record Meets (at place : ℕ) (r : Bool) (t n : ℕ) : Type 0 where
+  pub record Meets (at place : ℕ) (r : Bool) (skipped t n : ℕ) : Type 0 where
     pub ahead : at < n
     pub within : n ≤ length s
     pub second-local : t ≡ 1 → place < length s → Refused 7 ≡ judgedInformation s
-    pub first-local : t ≡ 1 → length s ≤ place → Going n at r
+    pub first-local : t ≡ 1 → length s ≤ place → Going n at r skipped
     pub second-remote : (t ≡ 1 → ⊥) → r ≡ true → Refused 7 ≡ judgedInformation s
-    pub first-remote : (t ≡ 1 → ⊥) → r ≡ false → Going n place true
+    pub first-remote : (t ≡ 1 → ⊥) → r ≡ false → Going n place true skipped
 
   -- what one turn comes to
-  abbrev pub Gone : ℕ → ℕ → Bool → Mark → Type 0
-  Gone at place r MarkEnd = Whole place ≡ judgedInformation s
-  Gone at place r MarkBroken = Refused 6 ≡ judgedInformation s
-  Gone at place r (Unknown n) = (at < n) × (n ≤ length s) × Going n place r
-  Gone at place r (Known t n) = Meets at place r t n
+  abbrev pub Gone : ℕ → ℕ → Bool → ℕ → Mark → Type 0
+  Gone at place r skipped MarkEnd = Whole place skipped ≡ judgedInformation s
+  Gone at place r skipped MarkBroken = Refused 6 ≡ judgedInformation s
+  Gone at place r skipped (Unknown n) = (at < n) × (n ≤ length s) × Going n place r (skipped + 1)
+  Gone at place r skipped (Known t n) = Meets at place r skipped t n
 
-  module _ (at place : ℕ) (r : Bool) (upto : place ≤ length s) (steps : ℕ) (enough : length s ≤ at + suc steps) where
+  module _ (at place : ℕ) (r : Bool) (skipped : ℕ) (upto : place ≤ length s) (few : skipped ≤ at) (steps : ℕ) (enough : length s ≤ at + suc steps) where
     one-local : (i : Information) (n : ℕ) → at < n → n ≤ length s
-        → judged at (also (local i) (informationParts true r (left steps n))) ≡ judgedInformation s → Going n at r
+        → judged at (skipped + skippedIn (left steps n)) (also (local i) (informationParts true r (left steps n))) ≡ judgedInformation s → Going n at r skipped
     one-local i n a w e =
         let there : ltb at (length s) ≡ true = lt-ltb at (length s) (omega arith) in
-        record { upto = omega arith; steps = steps; enough = omega arith; rest = rw there (sym (judged-also at (local i) (informationParts true r (left steps n))) ∙ e) }
+        record {
+          upto = omega arith;
+          few = omega arith;
+          steps = steps;
+          enough = omega arith;
+          rest = rw there (sym (judged-also at _ (local i) (informationParts true r (left steps n))) ∙ e);
+        }
 
     one-remote : (i : Information) (n : ℕ) → at < n
-        → judgedLeft place false (placesLeft steps n) (part (remote i) (left steps n)) ≡ judgedInformation s → Going n place true
+        → judgedLeft place false skipped (placesLeft steps n) (part (remote i) (left steps n)) ≡ judgedInformation s → Going n place true skipped
     one-remote i n a e =
-        record { upto = upto; steps = steps; enough = omega arith; rest = sym (judged-also _ (remote i) (informationParts (ltb place (length s)) true (left steps n))) ∙ e }
+        record {
+          upto = upto;
+          few = omega arith;
+          steps = steps;
+          enough = omega arith;
+          rest = sym (judged-also _ _ (remote i) (informationParts (ltb place (length s)) true (left steps n))) ∙ e;
+        }
+
+    one-skipped : (n : ℕ) → at < n → judgedLeft place r skipped (over (placesLeft steps n)) (over (left steps n)) ≡ judgedInformation s → Going n place r (skipped + 1)
+    one-skipped n a e =
+        let l = ltb place (length s) in
+        let one : skipped + 1 + skippedIn (left steps n) ≡ skipped + suc (skippedIn (left steps n)) = omega arith in
+        record {
+          upto = upto;
+          few = omega arith;
+          steps = steps;
+          enough = omega arith;
+          rest = ap (λ (k : ℕ). judged (cond l place (getD (met (placesLeft steps n)) 0 (length s))) k (informationParts l r (left steps n))) one ∙ e;
+        }
 
     gone : (mark : Mark) → Marked InformationKind at (length s) mark
-        → judgedLeft place r (onNext (localNext at (stepOf s at mark)) (placesLeft steps)) (onNext (nextOf (stepOf s at mark)) (left steps)) ≡ judgedInformation s
-        → Gone at place r mark
+        → judgedLeft place r skipped (onNext (localNext at (stepOf s at mark)) (placesLeft steps)) (onNext (nextOf (stepOf s at mark)) (left steps)) ≡ judgedInformation s
+        → Gone at place r skipped mark
     gone MarkEnd m e =
-        whether (ltb place (length s)) (λ t. rw t at e)
-        (λ f. let none : place ≡ length s = omega (arith, ltb-false place (length s) f) in ap Whole none ∙ (rw f at e))
+        let all : skipped ≡ skipped + 0 = sym (add-zero skipped) in
+        whether (ltb place (length s)) (λ t. ap (Whole place) all ∙ (rw t at e))
+        (λ f. let none : place ≡ length s = omega (arith, ltb-false place (length s) f) in (λ i. Whole (none i) (all i)) ∙ (rw f at e))
     gone MarkBroken m e = e
-    gone (Unknown n) m e = (m .0, m .1, record { upto = upto; steps = steps; enough = omega arith; rest = e })
+    gone (Unknown n) m e = (m .0, m .1, one-skipped n (m .0) e)
     gone (Known t n) m e =
         record {
           ahead = m .0;
@@ -149,14 +177,16 @@ module _ (s : List ℕ) where
           first-remote = λ a b. one-remote (informationAt s at) n (m .0) (rw (ne-eqb t 1 a, b) at e);
         }
 
-  by-steps : (at place : ℕ) (r : Bool) → place ≤ length s → (steps : ℕ) → length s ≤ at + steps
-      → judgedLeft place r (placesLeft steps at) (left steps at) ≡ judgedInformation s → Gone at place r (markAt InformationKind s at)
+  by-steps : (at place : ℕ) (r : Bool) (skipped : ℕ) → place ≤ length s → skipped ≤ at → (steps : ℕ) → length s ≤ at + steps
+      → judgedLeft place r skipped (placesLeft steps at) (left steps at) ≡ judgedInformation s → Gone at place r skipped (markAt InformationKind s at)
   unfolding informationStep walk
-  by-steps at place r upto zero h e = rw (mark-end InformationKind s at (omega arith)) (gone at place r upto zero (omega arith) MarkEnd tt e)
-  by-steps at place r upto (suc steps) h e = gone at place r upto steps h (markAt InformationKind s at) (mark-within InformationKind s at) e
+  by-steps at place r skipped upto few zero h e =
+      rw (mark-end InformationKind s at (omega arith)) (gone at place r skipped upto few zero (omega arith) MarkEnd tt e)
+  by-steps at place r skipped upto few (suc steps) h e =
+      gone at place r skipped upto few steps h (markAt InformationKind s at) (mark-within InformationKind s at) e
 
-  pub one-turn : (at place : ℕ) (r : Bool) → Going at place r → Gone at place r (markAt InformationKind s at)
-  one-turn at place r g = by-steps at place r (g .upto) (g .steps) (g .enough) (g .rest)
+  pub one-turn : (at place : ℕ) (r : Bool) (skipped : ℕ) → Going at place r skipped → Gone at place r skipped (markAt InformationKind s at)
+  one-turn at place r skipped g = by-steps at place r skipped (g .upto) (g .few) (g .steps) (g .enough) (g .rest)
 
   -- ---- the Local that is found
 

@@ -3,3 +3,4 @@ pub mod Judging
 pub mod Wholes
 pub mod Strides
 pub mod Places
+mod Skips

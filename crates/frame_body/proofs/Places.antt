@@ -7,7 +7,7 @@ use lib.ListN.{length}
 use Rattle.frame_tlvs.specs.Tlvs.{markAt}
 use Rattle.frame_tlvs.specs.Walk.{Next, onNext, walk}
 use Rattle.frame_tlvs.specs.Events.{stepOf, eventStep, nextOf}
-use Rattle.frame_body.specs.Information.{informationStep, nextOf as informationNext}
+use Rattle.frame_body.specs.Information.{informationStep, nextOf as informationNextOf}
 use Rattle.frame_body.specs.Variables.{descriptorStep, descriptorNext, containerStep, containerNext}
 use Rattle.frame_tlvs.specs.declared.Mark.{Mark}
 use Rattle.frame_tlvs.specs.declared.Mark.the-variants.{End as MarkEnd, Broken as MarkBroken, Unknown, Known}
@@ -67,7 +67,7 @@ abbrev Unrolls : {P : Type 0} → (ℕ → Next P) → List ℕ → Type 0
 Unrolls next s = (at : ℕ) → walk next (length s) at ≡ onNext (next at) (λ n. walk next (length s) n)
 
 pub record Unrolled (s : List ℕ) : Type 0 where
-  pub information : Unrolls (λ at. informationNext (informationStep s at)) s
+  pub information : Unrolls (λ at. informationNextOf (informationStep s at)) s
   pub events : Unrolls (λ at. nextOf (eventStep s at)) s
   pub descriptors : Unrolls (λ at. descriptorNext (descriptorStep s at)) s
   pub containers : Unrolls (λ at. containerNext s (containerStep s at)) s
@@ -75,7 +75,7 @@ pub record Unrolled (s : List ℕ) : Type 0 where
 pub unrolled : (s : List ℕ) → Unrolled s
 unrolled s =
     record {
-      information = unrolls (λ at. informationNext (informationStep s at)) (length s) (information-leads s);
+      information = unrolls (λ at. informationNextOf (informationStep s at)) (length s) (information-leads s);
       events = unrolls (λ at. nextOf (eventStep s at)) (length s) (event-leads s);
       descriptors = unrolls (λ at. descriptorNext (descriptorStep s at)) (length s) (descriptor-leads s);
       containers = unrolls (λ at. containerNext s (containerStep s at)) (length s) (container-leads s);

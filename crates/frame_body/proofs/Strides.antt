@@ -1,4 +1,4 @@
--- Laws of the loops over a list: what holds at each turn, and what a turn comes to. Descriptors and containers are taken by
+-- Laws of the loops over a list of descriptors or containers: what holds at each turn, and what a turn comes to. They are taken by
 -- strides: a part that is cut off shows by the octet after it, which lies past the body's end.
 use Prim.Native.Nat.{ℕ, _+_, _-_, _<_, _≤_}
 use mathlib.Core.Path.{_≡_, refl, sym, ap, subst, _∙_}
@@ -11,12 +11,7 @@ use lib.ListN.{length, getD}
 use lib.Dec.{ltb, leb, eqb}
 use Rattle.octets.specs.Octets.{num}
 use Rattle.octets.proofs.Bools.{whether, by-cond}
-use Rattle.frame_tlvs.specs.Tlvs.{markAt}
 use Rattle.frame_tlvs.specs.Walk.{Next, stop, broken, has, whole}
-use Rattle.frame_tlvs.specs.Events.{stepOf, eventStep, nextOf, eventWalk}
-use Rattle.frame_tlvs.specs.declared.Event.{Event}
-use Rattle.frame_tlvs.specs.declared.Mark.{Mark}
-use Rattle.frame_tlvs.specs.declared.Kind.the-variants.{Events as EventKind}
 use Rattle.frame_tlvs.proofs.Walks.{Ahead, Rest, Then, Leads, turn}
 use Rattle.frame_body.specs.Variables.{Container, descriptorStep, descriptorNext, descriptorWalk, widthOf, valueOctets, containerFrom, containerStep, containerNext, containerWalk}
 use Rattle.frame_body.specs.Lists.{wholeList}
@@ -24,35 +19,31 @@ use Rattle.frame_body.specs.declared.DescriptorStep.{DescriptorStep}
 use Rattle.frame_body.specs.declared.DescriptorStep.the-variants.{End as DescriptorEnd, Broken as DescriptorBroken, Has}
 use Rattle.frame_body.specs.declared.ContainerStep.the-variants.{Broken, Value, Indication}
 use Rattle.frame_body.specs.declared.ListKind.{ListKind}
-use Rattle.frame_body.specs.declared.ListKind.the-variants.{Events, Descriptors, Containers}
-use Rattle.frame_body.proofs.Places.{event-leads, descriptor-leads, container-leads}
+use Rattle.frame_body.specs.declared.ListKind.the-variants.{Descriptors, Containers}
+use Rattle.frame_body.proofs.Places.{descriptor-leads, container-leads}
 
 -- the parts of each kind of list, and what stands at an octet as a step of the walk over them
 abbrev Part : ListKind → Type 0
-Part Events = Event
 Part Descriptors = ℕ
 Part Containers = Container
 
 abbrev next : (list : ListKind) → List ℕ → ℕ → Next (Part list)
-next Events s at = nextOf (eventStep s at)
 next Descriptors s at = descriptorNext (descriptorStep s at)
 next Containers s at = containerNext s (containerStep s at)
 
 leads : (list : ListKind) (s : List ℕ) → Leads (λ at. next list s at) (length s)
-leads Events s = event-leads s
 leads Descriptors s = descriptor-leads s
 leads Containers s = container-leads s
 
 -- what holds at each turn of a loop, and what one turn comes to
-abbrev pub Going : ListKind → List ℕ → ℕ → Type 0
+abbrev Going : ListKind → List ℕ → ℕ → Type 0
 Going list s at = Rest (λ n. next list s n) (length s) (wholeList list s) whole at
 
-abbrev pub Gone : (list : ListKind) → List ℕ → ℕ → Next (Part list) → Type 0
+abbrev Gone : (list : ListKind) → List ℕ → ℕ → Next (Part list) → Type 0
 Gone list s at x = Then (λ n. next list s n) (length s) (wholeList list s) whole x × Ahead at (length s) x
 
-pub start : (list : ListKind) (s : List ℕ) → Going list s 0
-unfolding eventWalk descriptorWalk containerWalk
-start Events s = (length s, omega arith, refl)
+start : (list : ListKind) (s : List ℕ) → Going list s 0
+unfolding descriptorWalk containerWalk
 start Descriptors s = (length s, omega arith, refl)
 start Containers s = (length s, omega arith, refl)
 
@@ -90,15 +81,6 @@ module _ (list : ListKind) (s : List ℕ) where
   arrived at (inr w) h = lt-leb at (length s) (w .0) ∙ sym (w .1)
 
 module _ (s : List ℕ) (at : ℕ) where
-  -- ---- events, by their marks
-
-  abbrev pub Came : Mark → Type 0
-  Came mark = Gone Events s at (nextOf (stepOf s at mark))
-
-  pub event-turn : Going Events s at → Came (markAt EventKind s at)
-  unfolding eventStep
-  event-turn g = one-turn Events s at g
-
   -- ---- descriptors
 
   pub no-branch : at < length s → getD s at 0 ≡ 0 → descriptorStep s at ≡ DescriptorEnd

@@ -4,7 +4,7 @@ use mathlib.Core.List.{List}
 use mathlib.Core.Bool.{false, cond}
 use lib.ListN.{length, getD}
 use lib.Dec.{ltb}
-use Rattle.frame_tlvs.specs.Walk.{Next, stop, broken, skip, has, walk, met, Parsed, refused, parts}
+use Rattle.frame_tlvs.specs.Walk.{Next, stop, broken, skip, has, walk, met, skippedIn, Parsed, refused, parts}
 use Rattle.frame_body.specs.Information.{informationAt, informationStep, InformationPart, informationWalk, informationParts}
 use Rattle.frame_body.specs.declared.InformationStep.{InformationStep}
 use Rattle.frame_body.specs.declared.InformationStep.the-variants.{End, Broken, Skip, Local, Remote}
@@ -25,12 +25,12 @@ localNext at (Remote i n) = skip n
 unfoldable pub localPlace : List ℕ → ℕ
 localPlace s = getD (met (walk (λ at. localNext at (informationStep s at)) (length s) 0)) 0 (length s)
 
-abbrev pub judged : ℕ → Parsed InformationPart → Judged
-judged place (refused n) = Refused n
-judged place (parts ps) = Whole place
+abbrev pub judged : ℕ → ℕ → Parsed InformationPart → Judged
+judged place skipped (refused n) = Refused n
+judged place skipped (parts ps) = Whole place skipped
 
 unfoldable pub judgedInformation : List ℕ → Judged
-judgedInformation s = judged (localPlace s) (informationParts false false (informationWalk s))
+judgedInformation s = judged (localPlace s) (skippedIn (informationWalk s)) (informationParts false false (informationWalk s))
 
 -- the Local TLV at octet `at` where one stands, whatever its type octet says; nothing where sixteen octets would run past the end
 unfoldable pub localAt : List ℕ → ℕ → Held

@@ -3,3 +3,4 @@ pub mod Information
 pub mod Variables
 pub mod Lists
 pub mod Judging
+pub mod Counting

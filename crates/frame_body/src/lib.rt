@@ -1,15 +1,19 @@
 // The bodies of OAM frames: the Information TLVs, descriptors and containers that stand in their octets.
 //
-// The parts of a body are taken in order, one a call, by the step of their kind: `information_step`, `descriptor_step`,
-// `container_step`, and for events `event_step` of `frame_tlvs`. Begin at octet 0, and go on at the octet that each step gives,
-// until the end. A step judges what stands at its octet alone: a second Local is shown as a Local, and it is
-// `judged_information` that refuses such a body.
+// The parts of a body are taken in order, one a call, by the step of their kind: `descriptor_step` and `container_step` begin at
+// octet 0 and go on at the octet that each step gives, `information_next`, and for events `event_next` of `frame_tlvs`, begin at
+// `start()` of `frame_tlvs` and go on at the cursor that each gives, until the end. A step judges what stands at its octet alone:
+// a second Local is shown as a Local, and it is `judged_information` that refuses such a body.
 //
 // Nothing is copied out of a body but numbers: what is longer is a part of the caller's own octets.
+mod counting;
 mod lists;
 mod local_remote;
 mod variables;
 
+pub use counting::information_next;
+pub use counting::judged_events;
+use frame_tlvs::Cursor;
 pub use lists::is_whole;
 pub use local_remote::information_step;
 pub use local_remote::judged_information;
@@ -46,9 +50,15 @@ pub struct Found {
 }
 
 // What an Information body comes to: the number of its refusal, or where its Local TLV stands, the body's length where it
-// has none.
+// has none, and how many TLVs are skipped in it.
 pub enum Judged {
     Refused(u8),
+    Whole(usize, usize),
+}
+
+// What the events of a notification come to: one is broken, or how many TLVs are skipped among them.
+pub enum JudgedEvents {
+    Broken,
     Whole(usize),
 }
 
@@ -59,6 +69,16 @@ pub enum InformationStep {
     Skip(usize),
     Local(Information, usize),
     Remote(Information, usize),
+}
+
+// A step with the cursor after it; at the end the number of all TLVs that were skipped. In the cursor behind a Local or Remote
+// stands the number that were skipped before it.
+pub enum InformationNext {
+    End(usize),
+    Broken,
+    Skip(Cursor),
+    Local(Information, Cursor),
+    Remote(Information, Cursor),
 }
 
 // A descriptor is one number, the branch above the leaf's sixteen bits.
@@ -77,9 +97,8 @@ pub enum ContainerStep {
     Indication(u32, u8, usize),
 }
 
-// The kinds of list.
+// The kinds of list in which nothing is skipped.
 pub enum ListKind {
-    Events,
     Descriptors,
     Containers,
 }

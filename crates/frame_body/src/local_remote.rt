@@ -65,15 +65,17 @@ pub fn judged_information(body: &[u8]) -> Judged
     let mut at: usize = 0;
     let mut local: usize = body.len();
     let mut remote = false;
+    let mut skipped: usize = 0;
     loop {
         match frame_tlvs::mark_at(Kind::Information, body, at) {
             Mark::End => {
-                return Judged::Whole(local);
+                return Judged::Whole(local, skipped);
             }
             Mark::Broken => {
                 return Judged::Refused(6);
             }
             Mark::Unknown(next) => {
+                skipped += 1;
                 at = next;
             }
             Mark::Known(t, next) => {

@@ -19,12 +19,12 @@ use Rattle.octets.proofs.Bools.{by-cond}
 use Rattle.frame_tlvs.proofs.Rows.{four}
 
 -- a TLV has a type and its two octets, and lies within the body
-abbrev Within : ℕ → ℕ → Tlv → Type 0
+abbrev pub Within : ℕ → ℕ → Tlv → Type 0
 Within at len TlvEnd = Unit
 Within at len TlvBroken = Unit
 Within at len (At t n next) = (0 < t) × (2 ≤ n) × (next ≡ at + n) × (next ≤ len)
 
-tlv-within : (s : List ℕ) (at : ℕ) → Within at (length s) (tlvAt s at)
+pub tlv-within : (s : List ℕ) (at : ℕ) → Within at (length s) (tlvAt s at)
 unfolding tlvAt
 tlv-within s at =
     let P = Within at (length s) in

@@ -1,8 +1,9 @@
--- Laws of a walk over the parts of a body: one turn of a loop that walks, and why a body's length is steps enough.
+-- Laws of a walk over the parts of a body: one turn of a loop that walks, why a body's length is steps enough, and that no more is
+-- skipped than there are steps.
 use Prim.Native.Nat.{ℕ, zero, suc, _+_, _<_, _≤_}
 use mathlib.Core.Path.{_≡_, refl, sym, ap, subst}
 use native.Mathlib.Omega.{arith}
-use Rattle.frame_tlvs.specs.Walk.{Next, stop, broken, skip, has, Walk, ends, breaks, over, part, onNext, walk}
+use Rattle.frame_tlvs.specs.Walk.{Next, stop, broken, skip, has, Walk, ends, breaks, over, part, onNext, walk, skippedIn}
 
 -- the octet after a part lies ahead, within the body
 abbrev pub Ahead : {P : Type 0} → ℕ → ℕ → Next P → Type 0
@@ -62,3 +63,16 @@ module _ {P : Type 0} (next : ℕ → Next P) (len : ℕ) (leads : Leads next le
   pub unrolls : (at : ℕ) → walk next len at ≡ onNext (next at) (λ n. walk next len n)
   unfolding walk
   unrolls at = enough len (suc len) at (omega arith) (omega arith)
+
+-- a step skips one TLV at most
+module _ {P : Type 0} (next : ℕ → Next P) where
+  few-onward : (steps : ℕ) (go : ℕ → Walk P) → ((n : ℕ) → skippedIn (go n) ≤ steps) → (x : Next P) → skippedIn (onNext x go) ≤ suc steps
+  few-onward steps go h stop = omega arith
+  few-onward steps go h broken = omega arith
+  few-onward steps go h (skip n) = omega (arith, h n)
+  few-onward steps go h (has p n) = omega (arith, h n)
+
+  pub few-skips : (steps at : ℕ) → skippedIn (walk next steps at) ≤ steps
+  unfolding walk
+  few-skips zero at = omega arith
+  few-skips (suc steps) at = few-onward steps (λ n. walk next steps n) (λ n. few-skips steps n) (next at)

@@ -2,3 +2,4 @@
 pub mod Walk
 pub mod Tlvs
 pub mod Events
+pub mod Counting

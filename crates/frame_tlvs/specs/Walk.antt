@@ -1,5 +1,5 @@
 -- A walk over the parts of a body, whatever the parts are.
-use Prim.Native.Nat.{ℕ, zero, suc}
+use Prim.Native.Nat.{ℕ, zero, suc, _+_}
 use mathlib.Core.List.{List, [], _∷_}
 use mathlib.Core.Bool.{Bool, true, false}
 
@@ -58,3 +58,19 @@ whole ends = true
 whole breaks = false
 whole (over w) = whole w
 whole (part p w) = whole w
+
+-- ---- what was passed over
+
+-- how many TLVs a walk skips
+abbrev pub skippedIn : {P : Type 0} → Walk P → ℕ
+skippedIn ends = 0
+skippedIn breaks = 0
+skippedIn (over w) = suc (skippedIn w)
+skippedIn (part p w) = skippedIn w
+
+-- the parts of a walk, beside each the number skipped before it, where so many were skipped before the walk
+abbrev pub beside : {P : Type 0} → ℕ → Walk P → List (P × ℕ)
+beside skipped ends = []
+beside skipped breaks = []
+beside skipped (over w) = beside (skipped + 1) w
+beside skipped (part p w) = (p, skipped) ∷ beside skipped w

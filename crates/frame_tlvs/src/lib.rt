@@ -1,11 +1,16 @@
 // The TLVs of a body: what stands at an octet, whether a kind of body knows it, and the fields of an event's.
 //
-// `event_step` takes the events of a notification in order, one a call: begin at octet 0, and go on at the octet that each
-// step gives, until the end. A step judges what stands at its octet alone.
+// `event_next` takes the events of a notification in order, one a call: begin at `start()`, and go on at the cursor that each
+// step gives, until the end. Beside each event and at the end it gives the number of TLVs of unknown type that were skipped since
+// the body's start. A step (`event_step`) judges what stands at its octet alone.
+mod counting;
 mod notifications;
 mod numbers;
 mod tlvs;
 
+pub use counting::event_next;
+pub use counting::more;
+pub use counting::start;
 pub use notifications::event_length;
 pub use notifications::event_step;
 pub use notifications::event_widths;
@@ -41,4 +46,19 @@ pub enum EventStep {
     Broken,
     Skip(usize),
     Has(Event, usize),
+}
+
+// Where a walk over a body's TLVs stands: the octet to look at, and how many TLVs were skipped since the body's start.
+pub struct Cursor {
+    pub at: usize,
+    pub skipped: usize,
+}
+
+// A step with the cursor after it; at the end the number of all that were skipped. In the cursor behind an event stands the
+// number that were skipped before it.
+pub enum EventNext {
+    End(usize),
+    Broken,
+    Skip(Cursor),
+    Has(Event, Cursor),
 }

@@ -8,12 +8,11 @@ use native.Mathlib.Omega.{arith}
 use native.Mathlib.Nat.{add-zero}
 use lib.ListN.{length, getD, drop, replicate, length-append}
 use lib.Seq.{getD-drop}
-use Rattle.frame_tlvs.specs.Walk.{Next, stop, broken, skip, has, Walk, ends, part, onNext, walk, met}
+use Rattle.frame_tlvs.specs.Walk.{Next, stop, broken, skip, has, Walk, ends, part, onNext, walk, met, skippedIn}
 use Rattle.octets.specs.Octets.{Octets}
 use Rattle.octets.specs.Tests.{every}
 use Rattle.frame_writer.specs.Encode.{joined}
-use Rattle.frame_writer.specs.Plain.{noneSkipped}
-use Rattle.octets.proofs.Bools.{never, and-l, and-r}
+use Rattle.octets.proofs.Bools.{and-l, and-r}
 use Rattle.octets.proofs.Numbers.{past}
 
 -- what is told of a part that is met, with the octet after it, and what is known where something is skipped
@@ -41,7 +40,7 @@ these [] = ends
 these (p ∷ ps) = part p (these ps)
 
 -- nothing is skipped on such a walk
-pub these-known : {P : Type 0} (ps : List P) → noneSkipped (these ps) ≡ true
+pub these-known : {P : Type 0} (ps : List P) → skippedIn (these ps) ≡ 0
 these-known [] = refl
 these-known (p ∷ ps) = these-known ps
 
@@ -109,13 +108,13 @@ module _ {P : Type 0} {octets : P → List ℕ} {test : P → Bool} {skipped : T
   module _ (o : Octets s) where
     -- what was met from an octet on, with nothing skipped, stands there
     abbrev Stand : ℕ → Walk P → Type 0
-    Stand at w = (skipped → noneSkipped w ≡ true) → Begins (drop at s) (joined octets (met w))
+    Stand at w = (skipped → skippedIn w ≡ 0) → Begins (drop at s) (joined octets (met w))
 
     -- one step
     onward : (at : ℕ) (go : ℕ → Walk P) → ((n : ℕ) → Stand n (go n)) → (x : Next P) → Each (Shown octets test s at) skipped x → Stand at (onNext x go)
     onward at go h stop e k = (drop at s, refl)
     onward at go h broken e k = (drop at s, refl)
-    onward at go h (skip n) e k = never (k e)
+    onward at go h (skip n) e k = let none = k e in absurd (omega arith)
     onward at go h (has p n) e k =
         let r = h n k in
         (r .0, e .0 ∙ ap (λ (x : List ℕ). octets p ++ x) (r .1) ∙ sym (append-assoc (octets p) (joined octets (met (go n))) (r .0)))
@@ -127,7 +126,7 @@ module _ {P : Type 0} {octets : P → List ℕ} {test : P → Bool} {skipped : T
     stand (suc steps) at k = onward at (λ n. walk next steps n) (λ n. stand steps n) (next at) (codes .shows o at) k
 
     -- the parts that were met, with nothing skipped, stand one after another
-    pub walk-again : (skipped → noneSkipped (walk next (length s) 0) ≡ true) → Begins s (joined octets (met (walk next (length s) 0)))
+    pub walk-again : (skipped → skippedIn (walk next (length s) 0) ≡ 0) → Begins s (joined octets (met (walk next (length s) 0)))
     walk-again k = stand (length s) 0 k
 
     -- they pass the test

@@ -13,7 +13,7 @@ use Rattle.frame_body.specs.declared.Held.{Held}
 use Rattle.frame_body.specs.declared.Held.the-variants.{Nothing, Is}
 use Rattle.frame_writer.specs.Encode.{informationOctets, partOctets, heldOctets, bodyOctets, encode}
 use Rattle.frame_writer.specs.Plain.{plainHeader, plainBody, plain, sized}
-use Rattle.frame_writer.specs.Writing.{writes, written, Writing, WritingFormed, partsFrom}
+use Rattle.frame_writer.specs.Writing.{writes, written, Writing, WritingFormed, messageOf, partsFrom}
 use Rattle.frame_writer.specs.declared.Written.{Written}
 use Rattle.frame_writer.specs.declared.Written.the-variants.{Refused, Wrote}
 use Rattle.frame_writer.proofs.Lengths.{length-joined, length-header, length-part, plain-body, endOf, header, unpadded, length-unpadded, length-encode}
@@ -33,10 +33,11 @@ stored m d p =
     let z = replicate {A = ℕ} (shortestFrame - endOf (m .body)) 0 in
     sym (rw e (sets-append d 0 (unpadded m) z ∙ rw (e0, sets-append d 0 h b, k)))
 
--- what `is_plain` tells, of a body that was tested
-pub plain-told : (m : Message) {r body answer : Bool} → body ≡ plainBody (m .body) → r ≡ (plainHeader (m .source) (m .flags) && body) → r ≡ answer → plain m ≡ answer
+-- what `is_plain` tells of a writer's message, whose body was tested
+pub plain-told : (source flags : ℕ) (b : Body) {r body answer : Bool} → body ≡ plainBody b → r ≡ (plainHeader source flags && body) → r ≡ answer
+    → plain (messageOf source flags b) ≡ answer
 unfolding plain
-plain-told m e h k = ap (λ (b : Bool). plainHeader (m .source) (m .flags) && b) (sym e) ∙ sym h ∙ k
+plain-told source flags b e h k = ap (λ (x : Bool). plainHeader source flags && x) (sym e) ∙ sym h ∙ k
 
 module _ (m : Message) (d : List ℕ) where
   pub refused-10 : plain m ≡ false → Writing m d (Refused 10) d
@@ -67,19 +68,22 @@ module _ (m : Message) (d : List ℕ) where
 
 -- ---- a writer that is handed what may have no form at all, by what it was tested for
 
-module _ (m : Message) (d : List ℕ) {formed body r : Bool} (p : formed ≡ true → body ≡ plainBody (m .body)) (h : r ≡ (plainHeader (m .source) (m .flags) && body)) where
+module _ (source flags : ℕ) (b : Body) (d : List ℕ) {formed body r : Bool} (p : formed ≡ true → body ≡ plainBody b) (h : r ≡ (plainHeader source flags && body)) where
+  abbrev message : Message
+  message = messageOf source flags b
+
   -- refused, whether it has no form or no plain one
-  pub formed-10 : r ≡ false → WritingFormed formed m d (Refused 10) d
+  pub formed-10 : r ≡ false → WritingFormed formed message d (Refused 10) d
   formed-10 k =
       whether formed
-      (λ t. let w = refused-10 m d (plain-told m (p t) h k) in record { answers = rw t (w .answers); output = rw t (w .output) })
+      (λ t. let w = refused-10 message d (plain-told source flags b (p t) h k) in record { answers = rw t (w .answers); output = rw t (w .output) })
       (λ f. record { answers = rw f; output = rw f })
 
   -- else it has a plain form, and is written as others are
-  pub formed-plain : (body ≡ true → formed ≡ true) → r ≡ true → {a : Written} {d′ : List ℕ} → (formed ≡ true → plain m ≡ true → Writing m d a d′) → WritingFormed formed m d a d′
+  pub formed-plain : (body ≡ true → formed ≡ true) → r ≡ true → {a : Written} {d′ : List ℕ} → (formed ≡ true → plain message ≡ true → Writing message d a d′) → WritingFormed formed message d a d′
   formed-plain q k write =
-      let t = q (and-r (plainHeader (m .source) (m .flags)) body (sym h ∙ k)) in
-      let w = write t (plain-told m (p t) h k) in
+      let t = q (and-r (plainHeader source flags) body (sym h ∙ k)) in
+      let w = write t (plain-told source flags b (p t) h k) in
       record { answers = rw t (w .answers); output = rw t (w .output) }
 
 -- ---- the body of an Information frame: the Local, then the Remote

@@ -6,7 +6,6 @@ use lib.ListN.{length}
 use lib.Dec.{ltb, leb, eqb}
 use Rattle.frame.specs.Flags.{flagsOf}
 use Rattle.frame_tlvs.specs.Tlvs.{row, eventLength}
-use Rattle.frame_tlvs.specs.Walk.{Walk, ends, breaks, over, part}
 use Rattle.frame_body.specs.Information.{InformationPart, local, remote, informationWidths, informationValues}
 use Rattle.frame_body.specs.Variables.{Container, value, indication}
 use Rattle.frame.specs.Frame.{Body, information, notification, request, response, loopback, organization, Message}
@@ -81,15 +80,9 @@ plainBody (organization oui x) = plainOrganization oui (length x)
 abbrev pub plainHeader : ℕ → ℕ → Bool
 plainHeader source flags = ltb source (256 ^ 6) && plainFlags flags
 
+-- "no unknown TLV": none was skipped
 unfoldable pub plain : Message → Bool
-plain m = plainHeader (m .source) (m .flags) && plainBody (m .body)
-
--- "no unknown TLV": a walk that skips nothing
-abbrev pub noneSkipped : {P : Type 0} → Walk P → Bool
-noneSkipped ends = true
-noneSkipped breaks = true
-noneSkipped (over w) = false
-noneSkipped (part p w) = noneSkipped w
+plain m = eqb (m .skipped) 0 && (plainHeader (m .source) (m .flags) && plainBody (m .body))
 
 -- ---- lengths
 

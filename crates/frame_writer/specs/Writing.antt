@@ -47,8 +47,9 @@ pub record WritingFormed (formed : Bool) (m : Message) (entry : List ℕ) (answe
 
 -- ---- the messages that the writers are handed
 
+-- nothing is skipped in them
 abbrev pub messageOf : ℕ → ℕ → Body → Message
-messageOf source flags body = record { source = source; flags = flags; body = body }
+messageOf source flags body = record { source = source; flags = flags; skipped = 0; body = body }
 
 -- the Local first, then the Remote
 abbrev pub partsFrom : Held → Held → List InformationPart

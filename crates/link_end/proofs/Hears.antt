@@ -21,9 +21,9 @@ module _ (f : List ℕ) where
   pub says-refusal : (n : ℕ) → judgementOf f ≡ Refused n → Refusal n ≡ saidBy (decode f)
   says-refusal n j = rw (judged-refused f n j)
 
-  pub says-heard : (at : ℕ) → judgementOf f ≡ Accepted at → Is (heardAt f at) ≡ saidBy (decode f)
-  says-heard at j =
-      let k = judged-accepted f at j in
+  pub says-heard : (at skipped : ℕ) → judgementOf f ≡ Accepted at skipped → Is (heardAt f at skipped) ≡ saidBy (decode f)
+  says-heard at skipped j =
+      let k = judged-accepted f at skipped j in
       let m = k .0 in
       let a = k .1 in
       rw (a .decoded, a .header, a .local, action-is m (a .decoded) (m .body) refl)

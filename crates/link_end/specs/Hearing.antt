@@ -31,7 +31,8 @@ abbrev pub saidBy : Answer → Said
 saidBy (refused n) = Refusal n
 saidBy (accepted m) = Is (heardOf m)
 
--- how the code comes to it: from the octets of a frame whose Local TLV stands at an octet of its body
+-- how the code comes to it: from the octets of a frame whose Local TLV stands at an octet of its body, and in which so many TLVs
+-- were skipped
 abbrev pub actionBy : List ℕ → ℕ → Action
 actionBy f code =
     cond (eqb code 0) Inform
@@ -39,5 +40,6 @@ actionBy f code =
     (cond (eqb code 4) (Command (commandOf f))
     Other))
 
-abbrev pub heardAt : List ℕ → ℕ → Heard
-heardAt f at = record { header = headerOf f; local = localAt (drop bodyStart f) at; action = actionBy f (headerOf f .code) }
+abbrev pub heardAt : List ℕ → (at skipped : ℕ) → Heard
+heardAt f at skipped =
+    record { header = headerOf f skipped; local = localAt (drop bodyStart f) at; action = actionBy f (headerOf f skipped .code) }

@@ -19,11 +19,11 @@ fn action_by(frame: &[u8], code: u8) -> Action
     }
 }
 
-// What is heard of an accepted frame whose Local TLV stands at an octet of its body.
-fn heard_at(frame: &[u8], at: usize) -> Heard
-    ensures { λ r. ⌜ r ≡ heardAt (now (frame .entry)) at ⌝ }
+// What is heard of an accepted frame whose Local TLV stands at an octet of its body, and in which so many TLVs were skipped.
+fn heard_at(frame: &[u8], at: usize, skipped: u16) -> Heard
+    ensures { λ r. ⌜ r ≡ heardAt (now (frame .entry)) at skipped ⌝ }
 {
-    let header = frame::header_of(frame);
+    let header = frame::header_of(frame, skipped);
     let code = header.code;
     Heard {
         header: header,
@@ -38,6 +38,6 @@ pub fn hear(frame: &[u8]) -> Said
 {
     match frame::judgement_of(frame) {
         Judgement::Refused(answer) => Said::Refusal(answer),
-        Judgement::Accepted(at) => Said::Is(heard_at(frame, at)),
+        Judgement::Accepted(at, skipped) => Said::Is(heard_at(frame, at, skipped)),
     }
 }

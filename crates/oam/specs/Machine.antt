@@ -28,7 +28,7 @@ use Rattle.link_windows.specs.declared.Watch.{Watch}
 use Rattle.oam_packing.specs.Watches.{watchShown}
 use Rattle.oam_packing.specs.Octets.{stateLength, packedIn, watchPackedIn}
 use Rattle.oam_showing.specs.Showing.{Shown, shows, roomy}
-use Rattle.oam_showing.specs.Reading.{headerShown}
+use Rattle.oam_showing.specs.Reading.{headerNumbers, headerShown}
 
 -- ---- what a call comes to
 
@@ -96,18 +96,18 @@ reportedOutput number e out = cond (leb number 5) (outputBy (report (reportFrom 
 
 -- ---- received frames
 
--- of an accepted frame: its header, and the event number where the events are new, else 0
+-- of an accepted frame: its header with the number of skipped TLVs, and the event number where the events are new, else 0
 abbrev pub newsShown : News → Shown
 newsShown Nothing = shows 0 []
 newsShown (Frame h) = headerShown h 0
 newsShown (Events h n) = headerShown h n
 
--- a header too short for four numbers is 9: the end stays, and so its State octet
+-- a header too short for its numbers is 9: the end stays, and so its State octet
 unfoldable pub receivedBy : List ℕ → (room octets : ℕ) → End → Outcome
-receivedBy frame room octets e = cond (ltb room 4) (outcome e 9 0 Nothing) (outcomeBy (receive frame) octets e)
+receivedBy frame room octets e = cond (ltb room headerNumbers) (outcome e 9 0 Nothing) (outcomeBy (receive frame) octets e)
 
 unfoldable pub receivedOutput : List ℕ → (room : ℕ) → End → List ℕ → List ℕ
-receivedOutput frame room e out = cond (ltb room 4) out (outputBy (receive frame) e out)
+receivedOutput frame room e out = cond (ltb room headerNumbers) out (outputBy (receive frame) e out)
 
 abbrev pub heardIn : (End → Outcome) → MaybeEnd → List ℕ → List ℕ
 heardIn call (Refused n) header = header

@@ -118,8 +118,8 @@ fn show_news(lent: &mut [u64], shown: News) -> u64
     }
 }
 
-// One received frame. Of one that is accepted four numbers are stored in the header: source, flags, code, and the event
-// number where the events are new, else 0. A header shorter than that is 9, which leaves the end as it is.
+// One received frame. Of one that is accepted five numbers are stored in the header: source, flags, code, the event number where
+// the events are new, else 0, and how many TLVs were skipped. A header shorter than that is 9, which leaves the end as it is.
 #[no_mangle]
 pub extern "C" fn oam_receive(
     frame: &[u8],
@@ -132,7 +132,7 @@ pub extern "C" fn oam_receive(
     match oam_packing::unpack(state) {
         MaybeEnd::Refused(answer) => answer as u64,
         MaybeEnd::Is(e) => {
-            if header.len() < 4 {
+            if header.len() < oam_showing::HEADER_NUMBERS {
                 return refused_number(9, e);
             }
             let o = link::receive(e, frame, out);

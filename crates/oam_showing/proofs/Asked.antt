@@ -111,13 +111,13 @@ module _ (f : List ℕ) (room : ℕ) where
   by-body (loopback n) h = refl
   by-body (organization oui x) h = refl
 
-  pub asking-accepted : (at : ℕ) → judgementOf f ≡ Accepted at → descriptorsShown f room ≡ byCode (getD f 17 0)
+  pub asking-accepted : (at skipped : ℕ) → judgementOf f ≡ Accepted at skipped → descriptorsShown f room ≡ byCode (getD f 17 0)
   unfolding descriptorsShown
-  asking-accepted at j =
-      let (m, is) = judged-accepted f at j in
+  asking-accepted at skipped j =
+      let (m, is) = judged-accepted f at skipped j in
       let s = shown f m (is .decoded) in
       ap (descriptorsAnswer room) (is .decoded) ∙ by-body (m .body) (s .body) ∙ ap byCode (sym (s .code))
 
 -- an accepted frame's length
-pub judged-length : (f : List ℕ) (at : ℕ) → judgementOf f ≡ Accepted at → (60 ≤ length f) × (length f ≤ 1514)
-judged-length f at j = let is = judged-accepted f at j in message-length f (is .0) (is .1 .decoded)
+pub judged-length : (f : List ℕ) (at skipped : ℕ) → judgementOf f ≡ Accepted at skipped → (60 ≤ length f) × (length f ≤ 1514)
+judged-length f at skipped j = let is = judged-accepted f at skipped j in message-length f (is .0) (is .1 .decoded)

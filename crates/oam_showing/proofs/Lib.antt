@@ -2,6 +2,7 @@
 pub mod Untouched
 pub mod Moving
 pub mod Stored
+mod Cursors
 pub mod Taking
 pub mod ReadAll
 mod Asked

@@ -12,8 +12,8 @@ use Rattle.octets.specs.Octets.{num, fieldsAt}
 use Rattle.octets.proofs.Bools.{whether}
 use Rattle.frame_tlvs.specs.Walk.{Next, stop, broken, skip, has, over, part, onNext, walk}
 use Rattle.frame_tlvs.specs.Tlvs.{tlvAt, row, known, marked, markAt}
-use Rattle.frame_body.specs.Information.{informationWidths, informationOf as informationFrom, informationAt, stepOf as informationOf, informationStep, nextOf as informationNext}
-use Rattle.frame_tlvs.specs.Events.{eventOf, eventAt, stepOf as eventsOf, eventStep, nextOf as eventNext}
+use Rattle.frame_body.specs.Information.{informationWidths, informationOf as informationFrom, informationAt, stepOf as informationOf, informationStep, nextOf as informationNextOf}
+use Rattle.frame_tlvs.specs.Events.{eventOf, eventAt, stepOf as eventsOf, eventStep, nextOf as eventNextOf}
 use Rattle.frame_body.specs.Variables.{descriptorStep, descriptorNext, widthOf, containerFrom, containerStep, containerNext}
 use Rattle.frame_tlvs.specs.declared.Event.{Event}
 use Rattle.frame_tlvs.specs.declared.tlvs.Tlv.{Tlv}
@@ -120,12 +120,12 @@ module _ (k : ℕ) (f : List ℕ) where
   unfolding informationAt
   fields-moved at = ap informationFrom (values-moved informationWidths at 2)
 
-  pub information-moved : (at : ℕ) → informationNext (informationStep f (k + at)) ≡ moved k (informationNext (informationStep (drop k f) at))
+  pub information-moved : (at : ℕ) → informationNextOf (informationStep f (k + at)) ≡ moved k (informationNextOf (informationStep (drop k f) at))
   unfolding informationStep
   information-moved at =
-      ap (λ (x : Mark). informationNext (informationOf f (k + at) x)) (mark-moved Information at) ∙ by-mark (markAt Information (drop k f) at)
+      ap (λ (x : Mark). informationNextOf (informationOf f (k + at) x)) (mark-moved Information at) ∙ by-mark (markAt Information (drop k f) at)
     where
-      by-mark : (x : Mark) → informationNext (informationOf f (k + at) (movedMark x)) ≡ moved k (informationNext (informationOf (drop k f) at x))
+      by-mark : (x : Mark) → informationNextOf (informationOf f (k + at) (movedMark x)) ≡ moved k (informationNextOf (informationOf (drop k f) at x))
       by-mark MarkEnd = refl
       by-mark MarkBroken = refl
       by-mark (Unknown next) = refl
@@ -135,12 +135,12 @@ module _ (k : ℕ) (f : List ℕ) where
   unfolding eventAt
   event-at at t = ap (eventOf t) (values-moved (row t) at 2)
 
-  pub event-moved : (at : ℕ) → eventNext (eventStep f (k + at)) ≡ moved k (eventNext (eventStep (drop k f) at))
+  pub event-moved : (at : ℕ) → eventNextOf (eventStep f (k + at)) ≡ moved k (eventNextOf (eventStep (drop k f) at))
   unfolding eventStep
   event-moved at =
-      ap (λ (x : Mark). eventNext (eventsOf f (k + at) x)) (mark-moved Events at) ∙ by-mark (markAt Events (drop k f) at)
+      ap (λ (x : Mark). eventNextOf (eventsOf f (k + at) x)) (mark-moved Events at) ∙ by-mark (markAt Events (drop k f) at)
     where
-      by-mark : (x : Mark) → eventNext (eventsOf f (k + at) (movedMark x)) ≡ moved k (eventNext (eventsOf (drop k f) at x))
+      by-mark : (x : Mark) → eventNextOf (eventsOf f (k + at) (movedMark x)) ≡ moved k (eventNextOf (eventsOf (drop k f) at x))
       by-mark MarkEnd = refl
       by-mark MarkBroken = refl
       by-mark (Unknown next) = refl

@@ -1,23 +1,22 @@
 -- A frame that is read, alone or with its parts: what is stored where it is refused, and where it is accepted.
 use Prim.Native.Nat.{ℕ, _*_, _≤_, _<_}
 use mathlib.Core.Path.{_≡_, refl, sym, ap, subst, _∙_}
-use mathlib.Core.Bool.{Bool, true, false, cond, _||_}
+use mathlib.Core.Bool.{Bool, true, false, cond}
 use mathlib.Core.List.{List, []}
 use native.Mathlib.Omega.{arith}
-use borrow.Author.Tests.{ltb-false, lt-ltb, le-ltb}
+use borrow.Author.Tests.{lt-ltb, le-ltb}
 use lib.Dec.{ltb}
-use lib.ListN.{length, getD}
+use lib.ListN.{length, getD, length-map}
 use lib.Seq.{sets}
-use Rattle.frame.specs.Frame.{Message, Answer, refused, accepted, headerAnswer, decode, judgementOf, headerOf, fixedNumber}
+use Rattle.frame.specs.Frame.{Message, Answer, refused, accepted, decode, judgementOf, headerOf, fixedNumber}
 use Rattle.frame.specs.declared.Header.{Header}
 use Rattle.frame.specs.declared.Judgement.the-variants.{Refused, Accepted}
-use Rattle.octets.proofs.Bools.{by-cond, neither}
-use Rattle.frame.proofs.Decoding.{header-long}
+use Rattle.frame.proofs.Decoding.{header-long, header-short}
 use Rattle.frame.proofs.Stepping.{shown, refused-number}
 use Rattle.frame.proofs.Judging.{judged-refused, judged-accepted}
 use Rattle.oam_showing.specs.Showing.{Shown, shows, Showing}
 use Rattle.oam_showing.specs.Parts.{rowsOf, storedRows}
-use Rattle.oam_showing.specs.Reading.{headerShown, countIn, answerShown, frameShown, AllShown, refuses, answerAll, allShown, ShowingAll}
+use Rattle.oam_showing.specs.Reading.{headerNumbers, headerShown, countIn, answerShown, frameShown, AllShown, refuses, answerAll, allShown, ShowingAll}
 use Rattle.oam_showing.specs.Storing.{rowAt, rowsFrom, startOf, StoringRows}
 use Rattle.oam_showing.proofs.Untouched.{untouched}
 use Rattle.oam_showing.proofs.Taking.{rows-counted, rows-by-code, few}
@@ -29,21 +28,21 @@ header-shown {entry = entry} {answer = answer} {exit = exit} e d shown = subst (
 
 -- what is shown of a frame by the header's room and its judgement
 module _ (f header : List ℕ) where
-  pub shows-short : length header < 4 → Showing (frameShown f (length header)) header 9 header
+  pub shows-short : length header < headerNumbers → Showing (frameShown f (length header)) header 9 header
   unfolding frameShown
-  shows-short h = rw (lt-ltb (length header) 4 h) untouched
+  shows-short h = rw (lt-ltb (length header) headerNumbers h) untouched
 
-  module _ (room : 4 ≤ length header) where
+  module _ (room : headerNumbers ≤ length header) where
     pub shows-refusal : (n : ℕ) → judgementOf f ≡ Refused n → Showing (frameShown f (length header)) header n header
     unfolding frameShown
-    shows-refusal n j = rw (le-ltb (length header) 4 room, judged-refused f n j) untouched
+    shows-refusal n j = rw (le-ltb (length header) headerNumbers room, judged-refused f n j) untouched
 
-    pub shows-accepted : (at : ℕ) → judgementOf f ≡ Accepted at → {h : Header} {n answer : ℕ} {exit : List ℕ} → h ≡ headerOf f → n ≡ fixedNumber f
+    pub shows-accepted : (at skipped : ℕ) → judgementOf f ≡ Accepted at skipped → {h : Header} {n answer : ℕ} {exit : List ℕ} → h ≡ headerOf f skipped → n ≡ fixedNumber f
         → Showing (headerShown h n) header answer exit → Showing (frameShown f (length header)) header answer exit
     unfolding frameShown
-    shows-accepted at j e d s =
-        let is = judged-accepted f at j .1 in
-        rw (le-ltb (length header) 4 room, is .decoded) (header-shown (e ∙ is .header) (d ∙ is .number) s)
+    shows-accepted at skipped j e d s =
+        let is = judged-accepted f at skipped j .1 in
+        rw (le-ltb (length header) headerNumbers room, is .decoded) (header-shown (e ∙ is .header) (d ∙ is .number) s)
 
   -- a refusal is no 0
   pub refused-some : (n : ℕ) → judgementOf f ≡ Refused n → n ≡ 0 → ⊥
@@ -69,7 +68,7 @@ pub refusing : (f : List ℕ) (first : ℕ) (header rows : List ℕ) {answer : �
     → ShowingAll (allShown f first (length header) (length rows)) header rows answer header-exit rows
 unfolding frameShown allShown
 refusing f first header rows h refuses =
-    let e = refused-all f first (length rows) (ltb (length header) 4) (decode f) (λ z. refuses (h .answers ∙ z)) in
+    let e = refused-all f first (length rows) (ltb (length header) headerNumbers) (decode f) (λ z. refuses (h .answers ∙ z)) in
     record {
       results = h .answers ∙ ap (λ (x : AllShown). x .result) e;
       headed = h .stored ∙ ap (λ (x : AllShown). sets header 0 (x .header)) e;
@@ -94,18 +93,12 @@ accepted-by f first room false (accepted m) e h = (m, e, refl)
 accepted-all : (f : List ℕ) (first headerRoom room : ℕ) → frameShown f headerRoom .answer ≡ 0 → Accepting f first headerRoom room
 unfolding frameShown allShown
 accepted-all f first headerRoom room h =
-    let a = accepted-by f first room (ltb headerRoom 4) (decode f) refl h in
+    let a = accepted-by f first room (ltb headerRoom headerNumbers) (decode f) refl h in
     record { message = a .0; accepts = a .1; all = a .2 }
 
 -- its length
-short-frame : (f : List ℕ) → headerAnswer f ≡ 0 → length f ≤ 1514
-unfolding headerAnswer
-short-frame f =
-    by-cond (λ (n : ℕ). n ≡ 0 → length f ≤ 1514) (ltb (length f) 60 || ltb 1514 (length f)) (λ _ e. absurd (omega arith))
-    (λ h _. omega (arith, ltb-false 1514 (length f) (neither (ltb (length f) 60) (ltb 1514 (length f)) h .1)))
-
 pub message-length : (f : List ℕ) (m : Message) → decode f ≡ accepted m → (60 ≤ length f) × (length f ≤ 1514)
-message-length f m e = let passed = shown f m e .passed in (header-long f passed, short-frame f passed)
+message-length f m e = let passed = shown f m e .passed in (header-long f passed, header-short f passed)
 
 pub accepted-length : (f : List ℕ) (headerRoom : ℕ) → frameShown f headerRoom .answer ≡ 0 → (60 ≤ length f) × (length f ≤ 1514)
 accepted-length f headerRoom h = let a = accepted-all f 0 headerRoom 0 h in message-length f (a .message) (a .accepts)
@@ -125,4 +118,4 @@ accepting f first header rows h z b s =
 
 -- its rows are few
 pub few-rows : (f : List ℕ) (code at : ℕ) → length (rowsFrom code f at) ≤ length f
-few-rows f code at = few (λ n. rowAt code f n) (length f) at
+few-rows f code at = rw length-map (few (λ n. rowAt code f n) (length f) at 0)

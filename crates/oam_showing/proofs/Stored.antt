@@ -1,20 +1,22 @@
 -- Laws of rows: how they are stored number by number, what a walk is whose parts are made into rows, and one turn of the loop
 -- that stores them.
-use Prim.Native.Nat.{ℕ, zero, suc, _+_, _-_, _*_, _/_, _<_, _≤_}
+use Prim.Native.Nat.{ℕ, zero, suc, _+_, _-_, _*_, _/_, _^_, _<_, _≤_}
 use mathlib.Core.Path.{_≡_, refl, sym, ap, subst, _∙_}
 use mathlib.Core.List.{List, [], _∷_, map, flatten}
 use native.Mathlib.Nat.{add-zero, zero-add}
 use native.Mathlib.Omega.{arith}
-use borrow.Author.Tests.{ltb-true, ltb-false}
+use borrow.Author.Tests.{ltb-true, ltb-false, lt-ltb}
 use lib.Dec.{ltb, eqb}
 use lib.ListN.{length, getD, set, take, drop, length-drop, drop-of-length-le}
 use lib.Seq.{sets, take-nil, drop-nil, length-take-le}
-use Rattle.frame_tlvs.specs.Walk.{Next, stop, broken, skip, has, Walk, ends, part, onNext, walk, met}
-use Rattle.frame_tlvs.specs.Events.{eventStep, nextOf as eventNext}
-use Rattle.frame_body.specs.Information.{InformationPart, local, remote, informationStep, nextOf as informationNext}
+use Rattle.frame_tlvs.specs.Walk.{Next, stop, broken, skip, has, Walk, ends, part, onNext, walk, beside}
+use Rattle.frame_tlvs.specs.Counting.{more, behind}
+use Rattle.frame_tlvs.specs.declared.Cursor.{Cursor}
+use Rattle.frame_tlvs.specs.Events.{eventStep, nextOf as eventNextOf}
+use Rattle.frame_body.specs.Information.{InformationPart, local, remote, informationStep, nextOf as informationNextOf}
 use Rattle.frame_body.specs.Variables.{Container, value, indication, descriptorStep, descriptorNext, containerStep, containerNext}
-use Rattle.oam_showing.specs.Parts.{Placed, before, placed, rowNumbers, informationRow, eventRow, descriptorRow, containerRow, storedRows}
-use Rattle.oam_showing.specs.Storing.{mapped, rowAt, rowsFrom, rowStored, stoodOf, nextStored, StoringRow}
+use Rattle.oam_showing.specs.Parts.{Placed, before, placed, rowNumbers, row, informationRow, eventRow, descriptorRow, containerRow, storedRows}
+use Rattle.oam_showing.specs.Storing.{mapped, awaiting, rowAt, numbered, rowsFrom, rowStored, stoodOf, nextStored, StoringRow}
 use Rattle.oam_showing.specs.declared.rows.RowStep.{RowStep}
 use Rattle.oam_showing.specs.declared.rows.RowStep.the-variants.{End, Over, Part}
 use Rattle.octets.proofs.Bools.{by-cond, whether}
@@ -45,15 +47,29 @@ pub one-by-one : (n : ℕ) (lent : List ℕ) (to : ℕ) (numbers : List ℕ) →
 one-by-one n lent to numbers e =
     sym (then-rest n lent to numbers (omega (arith, e)) ∙ ap (λ (xs : List ℕ). sets (firsts n lent to numbers) (to + n) xs) (drop-of-length-le numbers {i = n} (omega (arith, e))))
 
--- ---- what a function stores of what stands at an octet
+-- seven numbers leave no room for zeros
+pub full-row : (kind next skipped : ℕ) (numbers : List ℕ) → length numbers ≡ 7
+    → kind ∷ next ∷ skipped ∷ getD numbers 0 0 ∷ getD numbers 1 0 ∷ getD numbers 2 0 ∷ getD numbers 3 0 ∷ getD numbers 4 0 ∷ getD numbers 5 0 ∷ getD numbers 6 0 ∷ [] ≡ row kind next skipped numbers
+full-row kind next skipped [] h = absurd (omega arith)
+full-row kind next skipped (a ∷ []) h = absurd (omega arith)
+full-row kind next skipped (a ∷ b ∷ []) h = absurd (omega arith)
+full-row kind next skipped (a ∷ b ∷ c ∷ []) h = absurd (omega arith)
+full-row kind next skipped (a ∷ b ∷ c ∷ d ∷ []) h = absurd (omega arith)
+full-row kind next skipped (a ∷ b ∷ c ∷ d ∷ e ∷ []) h = absurd (omega arith)
+full-row kind next skipped (a ∷ b ∷ c ∷ d ∷ e ∷ f ∷ []) h = absurd (omega arith)
+full-row kind next skipped (a ∷ b ∷ c ∷ d ∷ e ∷ f ∷ g ∷ []) h = refl
+full-row kind next skipped (a ∷ b ∷ c ∷ d ∷ e ∷ f ∷ g ∷ i ∷ rest) h = absurd (omega arith)
+
+-- ---- what a function stores of what stands at a cursor
 
 -- nothing but what is said of it
-pub as-it-stood : {count first : ℕ} {next : Next (List ℕ)} {entry : List ℕ} → StoringRow count first next entry (stoodOf next) (nextStored count first next entry)
+pub as-it-stood : {c : Cursor} {count first : ℕ} {next : Next (ℕ → List ℕ)} {entry : List ℕ}
+    → StoringRow c count first next entry (stoodOf c next) (nextStored (c .skipped) count first next entry)
 as-it-stood = record { stands = refl; stored = refl }
 
 -- a part, whose row is stored
-pub part-stored : {count first : ℕ} {stored row : List ℕ} {next : ℕ} {entry exit : List ℕ}
-    → exit ≡ rowStored count first stored entry → stored ≡ row → StoringRow count first (has row next) entry (Part next) exit
+pub part-stored : {c : Cursor} {count first : ℕ} {row : ℕ → List ℕ} {stored : List ℕ} {next : ℕ} {entry exit : List ℕ}
+    → exit ≡ rowStored count first stored entry → stored ≡ row (c .skipped) → StoringRow c count first (has row next) entry (Part (behind c next)) exit
 part-stored {count = count} {first = first} {entry = entry} e h =
     record { stands = refl; stored = e ∙ ap (λ (x : List ℕ). rowStored count first x entry) h }
 
@@ -67,70 +83,72 @@ value-width f at descriptor width next e =
 
 -- ---- a walk whose parts are made into something else
 
-module _ {P Q : Type 0} (make : P → Q) (next : ℕ → Next P) (made : ℕ → Next Q) (same : (at : ℕ) → mapped make (next at) ≡ made at) where
-  onward : (go : ℕ → Walk P) (gone : ℕ → Walk Q) → ((n : ℕ) → met (gone n) ≡ map make (met (go n))) → (x : Next P)
-      → met (onNext (mapped make x) gone) ≡ map make (met (onNext x go))
-  onward go gone h stop = refl
-  onward go gone h broken = refl
-  onward go gone h (skip n) = h n
-  onward go gone h (has p n) = ap (λ (qs : List Q). make p ∷ qs) (h n)
+module _ {P Q R : Type 0} (make : P → Q) (next : ℕ → Next P) (made : ℕ → Next Q) (same : (at : ℕ) → mapped make (next at) ≡ made at)
+    (of-made : Q × ℕ → R) (of-part : P × ℕ → R) (agree : (p : P) (skipped : ℕ) → of-made (make p, skipped) ≡ of-part (p, skipped)) where
+  onward : (go : ℕ → Walk P) (gone : ℕ → Walk Q) → ((n skipped : ℕ) → map of-made (beside skipped (gone n)) ≡ map of-part (beside skipped (go n)))
+      → (skipped : ℕ) (x : Next P) → map of-made (beside skipped (onNext (mapped make x) gone)) ≡ map of-part (beside skipped (onNext x go))
+  onward go gone h skipped stop = refl
+  onward go gone h skipped broken = refl
+  onward go gone h skipped (skip n) = h n (skipped + 1)
+  onward go gone h skipped (has p n) = λ i. agree p skipped i ∷ h n skipped i
 
-  -- it meets what is made of the parts
-  pub met-mapped : (steps at : ℕ) → met (walk made steps at) ≡ map make (met (walk next steps at))
+  -- it has what is made of the parts, beside the same numbers
+  pub beside-mapped : (steps at skipped : ℕ) → map of-made (beside skipped (walk made steps at)) ≡ map of-part (beside skipped (walk next steps at))
   unfolding walk
-  met-mapped zero at = refl
-  met-mapped (suc steps) at = rw (← same at) (onward (λ n. walk next steps n) (λ n. walk made steps n) (λ n. met-mapped steps n) (next at))
+  beside-mapped zero at skipped = refl
+  beside-mapped (suc steps) at skipped =
+      rw (← same at) (onward (λ n. walk next steps n) (λ n. walk made steps n) (λ n. beside-mapped steps n) skipped (next at))
 
 -- ---- what stands at an octet as a row
 
--- a row has its count of numbers
-abbrev Filled : Next (List ℕ) → Type 0
+-- a row has its count of numbers, whichever number it awaits
+abbrev Filled : Next (ℕ → List ℕ) → Type 0
 Filled stop = Unit
 Filled broken = Unit
 Filled (skip n) = Unit
-Filled (has row n) = length row ≡ rowNumbers
+Filled (has row n) = (skipped : ℕ) → length (row skipped) ≡ rowNumbers
 
 -- it ends with the frame, leads on, and is a row
-pub record Sound (at len : ℕ) (x : Next (List ℕ)) : Type 0 where
+pub record Sound (at len : ℕ) (x : Next (ℕ → List ℕ)) : Type 0 where
   pub end : len ≤ at → x ≡ stop
   pub ahead : Ahead at len x
   pub filled : Filled x
 
-module _ {P : Type 0} (row : Placed P → List ℕ) (next : ℕ → Next P) (len : ℕ) (leads : Leads next len) (fills : (p : P) (n : ℕ) → length (row (before p n)) ≡ rowNumbers) where
-  ahead-row : (at : ℕ) (x : Next P) → Ahead at len x → Ahead at len (mapped row (placed x))
+module _ {P : Type 0} (row : Placed P × ℕ → List ℕ) (next : ℕ → Next P) (len : ℕ) (leads : Leads next len) (fills : (p : P) (n skipped : ℕ) → length (row (before p n, skipped)) ≡ rowNumbers) where
+  ahead-row : (at : ℕ) (x : Next P) → Ahead at len x → Ahead at len (mapped (awaiting row) (placed x))
   ahead-row at stop h = tt
   ahead-row at broken h = tt
   ahead-row at (skip n) h = h
   ahead-row at (has p n) h = h
 
-  filled-row : (x : Next P) → Filled (mapped row (placed x))
+  filled-row : (x : Next P) → Filled (mapped (awaiting row) (placed x))
   filled-row stop = tt
   filled-row broken = tt
   filled-row (skip n) = tt
   filled-row (has p n) = fills p n
 
-  sound-row : (at : ℕ) → Sound at len (mapped row (placed (next at)))
+  sound-row : (at : ℕ) → Sound at len (mapped (awaiting row) (placed (next at)))
   sound-row at =
       record {
-        end = λ h. ap (λ (x : Next P). mapped row (placed x)) (leads .end at h);
+        end = λ h. ap (λ (x : Next P). mapped (awaiting row) (placed x)) (leads .end at h);
         ahead = ahead-row at (next at) (leads .ahead at);
         filled = filled-row (next at);
       }
 
-information-fills : (p : InformationPart) (n : ℕ) → length (informationRow (before p n)) ≡ rowNumbers
-information-fills (local i) n = refl
-information-fills (remote i) n = refl
+information-fills : (p : InformationPart) (n skipped : ℕ) → length (informationRow (before p n, skipped)) ≡ rowNumbers
+information-fills (local i) n skipped = refl
+information-fills (remote i) n skipped = refl
 
-container-fills : (p : Container) (n : ℕ) → length (containerRow (before p n)) ≡ rowNumbers
-container-fills (value d x) n = refl
-container-fills (indication d o) n = refl
+container-fills : (p : Container) (n skipped : ℕ) → length (containerRow (before p n, skipped)) ≡ rowNumbers
+container-fills (value d x) n skipped = refl
+container-fills (indication d o) n skipped = refl
 
 sound : (code : ℕ) (f : List ℕ) (at : ℕ) → Sound at (length f) (rowAt code f at)
 sound code f at =
     let P = Sound at (length f) in
-    by-cond P (eqb code 0) (λ _. sound-row informationRow (λ n. informationNext (informationStep f n)) (length f) (information-leads f) information-fills at) (λ _.
-    by-cond P (eqb code 1) (λ _. sound-row eventRow (λ n. eventNext (eventStep f n)) (length f) (event-leads f) (λ _ _. refl) at) (λ _.
-    by-cond P (eqb code 2) (λ _. sound-row descriptorRow (λ n. descriptorNext (descriptorStep f n)) (length f) (descriptor-leads f) (λ _ _. refl) at) (λ _.
+    by-cond P (eqb code 0) (λ _. sound-row informationRow (λ n. informationNextOf (informationStep f n)) (length f) (information-leads f) information-fills at) (λ _.
+    by-cond P (eqb code 1) (λ _. sound-row eventRow (λ n. eventNextOf (eventStep f n)) (length f) (event-leads f) (λ _ _ _. refl) at) (λ _.
+    by-cond P (eqb code 2) (λ _. sound-row descriptorRow (λ n. descriptorNext (descriptorStep f n)) (length f) (descriptor-leads f) (λ _ _ _. refl) at) (λ _.
     by-cond P (eqb code 3) (λ _. sound-row containerRow (λ n. containerNext f (containerStep f n)) (length f) (container-leads f) container-fills at) (λ _.
     record { end = λ _. refl; ahead = tt; filled = tt }))))
 
@@ -180,22 +198,25 @@ module _ (code : ℕ) (f : List ℕ) (from first : ℕ) (lent : List ℕ) where
   abbrev answer : ℕ × List ℕ
   answer = (length (rowsFrom code f from), sets lent 0 (storedRows first (length lent) (rowsFrom code f from)))
 
-  -- what it makes of the walk that is left
-  abbrev fold : ℕ → List ℕ → Walk (List ℕ) → ℕ × List ℕ
-  fold count now w = (count + length (met w), sets now (to first (length lent) count) (left first (length lent) count (met w)))
+  -- what it makes of the walk that is left, so many skipped before it
+  abbrev fold : ℕ → ℕ → List ℕ → Walk (ℕ → List ℕ) → ℕ × List ℕ
+  fold skipped count now w =
+      let rows = numbered (beside skipped w) in
+      (count + length rows, sets now (to first (length lent) count) (left first (length lent) count rows))
 
-  -- what holds at each turn of the loop, and what one turn comes to
-  abbrev pub Going : List ℕ → ℕ → ℕ → Type 0
-  Going now at count = Rest (λ n. rowAt code f n) (length f) answer (fold count now) at
+  -- What holds at each turn of the loop, and what one turn comes to. As each TLV has octets, no more were skipped than lie before
+  -- the cursor.
+  abbrev pub Going : List ℕ → Cursor → ℕ → Type 0
+  Going now c count = (c .skipped ≤ c .at) × Rest (λ n. rowAt code f n) (length f) answer (fold (c .skipped) count now) (c .at)
 
-  abbrev pub Gone : ℕ → ℕ → List ℕ → RowStep → Type 0
-  Gone at count now End = (count, now) ≡ answer
-  Gone at count now (Over n) = Going now n count × (at < n) × (n ≤ length f)
-  Gone at count now (Part n) = Going now n (count + 1) × (at < n) × (n ≤ length f)
+  abbrev pub Gone : Cursor → ℕ → List ℕ → RowStep → Type 0
+  Gone c count now End = (count, now) ≡ answer
+  Gone c count now (Over after) = Going now after count × (c .at < after .at) × (after .at ≤ length f)
+  Gone c count now (Part after) = Going now after (count + 1) × (c .at < after .at) × (after .at ≤ length f)
 
-  pub start : Going lent from 0
+  pub start : Going lent (record { at = from; skipped = 0 }) 0
   start =
-      (length f, omega arith, λ i. (zero-add (length (rowsFrom code f from)) i, stored i))
+      (omega arith, (length f, omega arith, λ i. (zero-add (length (rowsFrom code f from)) i, stored i)))
     where
       stored : sets lent (to first (length lent) 0) (left first (length lent) 0 (rowsFrom code f from)) ≡ sets lent 0 (storedRows first (length lent) (rowsFrom code f from))
       stored =
@@ -204,25 +225,31 @@ module _ (code : ℕ) (f : List ℕ) (from first : ℕ) (lent : List ℕ) where
           let r : length lent / rowNumbers - 0 ≡ length lent / rowNumbers = omega arith in
           rw (z, p, r)
 
-  ended : (now : List ℕ) (count : ℕ) → (count, now) ≡ fold count now ends
-  ended now count = λ i. (sym (add-zero count) i, ap (λ (xs : List ℕ). sets now (to first (length lent) count) xs) (sym (none-left first (length lent) count)) i)
+  ended : (now : List ℕ) (skipped count : ℕ) → (count, now) ≡ fold skipped count now ends
+  ended now skipped count = λ i. (sym (add-zero count) i, ap (λ (xs : List ℕ). sets now (to first (length lent) count) xs) (sym (none-left first (length lent) count)) i)
 
-  counted : (now row : List ℕ) (count : ℕ) (w : Walk (List ℕ)) → length now ≡ length lent → length row ≡ rowNumbers
-      → fold count now (part row w) ≡ fold (count + 1) (rowStored count first row now) w
-  counted now row count w l filled =
-      let e : count + suc (length (met w)) ≡ count + 1 + length (met w) = omega arith in
-      λ i. (e i, store-next first (length lent) count row (met w) now l filled i)
+  counted : (now : List ℕ) (row : ℕ → List ℕ) (skipped count : ℕ) (w : Walk (ℕ → List ℕ)) → length now ≡ length lent → length (row skipped) ≡ rowNumbers
+      → fold skipped count now (part row w) ≡ fold skipped (count + 1) (rowStored count first (row skipped) now) w
+  counted now row skipped count w l filled =
+      let rows = numbered (beside skipped w) in
+      let e : count + suc (length rows) ≡ count + 1 + length rows = omega arith in
+      λ i. (e i, store-next first (length lent) count (row skipped) rows now l filled i)
 
-  gone : (now : List ℕ) (at count : ℕ) → length now ≡ length lent → (x : Next (List ℕ)) → Ahead at (length f) x → Filled x
-      → Then (λ n. rowAt code f n) (length f) answer (fold count now) x → Gone at count (nextStored count first x now) (stoodOf x)
-  gone now at count l stop a r h = ended now count ∙ h
-  gone now at count l broken a r h = ended now count ∙ h
-  gone now at count l (skip n) a r h = (h, a .0, a .1)
-  gone now at count l (has row n) a r (g, h, e) = ((g, h, sym (counted now row count (walk (λ m. rowAt code f m) g n) l r) ∙ e), a .0, a .1)
+  module _ (short : length f < 2 ^ 64) (now : List ℕ) (c : Cursor) (count : ℕ) (l : length now ≡ length lent) where
+    -- one more is counted, where the octet ahead lies within the frame
+    one-more : (n : ℕ) → c .skipped ≤ c .at → c .at < n → n ≤ length f → more (c .skipped) ≡ c .skipped + 1
+    one-more n a b d = rw (lt-ltb (c .skipped) (2 ^ 64 - 1) (omega (arith, short, a, b, d)))
 
-  pub one-turn : {stood : RowStep} {exit : List ℕ} (now : List ℕ) (at count : ℕ) → length now ≡ length lent → Going now at count
-      → StoringRow count first (rowAt code f at) now stood exit → Gone at count exit stood
-  one-turn now at count l h r =
-      rw (r .stands, r .stored)
-      (gone now at count l (rowAt code f at) (sound code f at .ahead) (sound code f at .filled)
-      (turn (λ n. rowAt code f n) (length f) (row-leads code f) answer (fold count now) at h))
+    gone : (x : Next (ℕ → List ℕ)) → Ahead (c .at) (length f) x → Filled x → c .skipped ≤ c .at
+        → Then (λ n. rowAt code f n) (length f) answer (fold (c .skipped) count now) x → Gone c count (nextStored (c .skipped) count first x now) (stoodOf c x)
+    gone stop a r s h = ended now (c .skipped) count ∙ h
+    gone broken a r s h = ended now (c .skipped) count ∙ h
+    gone (skip n) a r s (g, h, e) = let m = one-more n s (a .0) (a .1) in ((omega (arith, m, s, a .0), (g, h, rw m e)), a .0, a .1)
+    gone (has row n) a r s (g, h, e) =
+        ((omega (arith, s, a .0), (g, h, sym (counted now row (c .skipped) count (walk (λ m. rowAt code f m) g n) l (r (c .skipped))) ∙ e)), a .0, a .1)
+
+    pub one-turn : {stood : RowStep} {exit : List ℕ} → Going now c count → StoringRow c count first (rowAt code f (c .at)) now stood exit → Gone c count exit stood
+    one-turn (s, h) r =
+        rw (r .stands, r .stored)
+        (gone (rowAt code f (c .at)) (sound code f (c .at) .ahead) (sound code f (c .at) .filled) s
+        (turn (λ n. rowAt code f n) (length f) (row-leads code f) answer (fold (c .skipped) count now) (c .at) h))

@@ -11,9 +11,13 @@ use Rattle.frame.specs.declared.Header.{Header}
 use Rattle.oam_showing.specs.Showing.{Shown, shows, roomy}
 use Rattle.oam_showing.specs.Parts.{rowsOf, storedRows}
 
--- "A reading shows source address, flags, code", and the body's fixed number
+-- the numbers of a header
+abbrev pub headerNumbers : ℕ
+headerNumbers = 5
+
+-- "A reading shows source address, flags, code", the body's fixed number, and how many TLVs were skipped
 abbrev pub headerShown : Header → ℕ → Shown
-headerShown h number = shows 0 (h .source ∷ h .flags ∷ h .code ∷ number ∷ [])
+headerShown h number = shows 0 (h .source ∷ h .flags ∷ h .code ∷ number ∷ h .skipped ∷ [])
 
 -- the number at the body's start is the event number, the command or the OUI, else 0
 abbrev pub answerShown : Answer → Shown
@@ -22,7 +26,7 @@ answerShown (accepted m) = headerShown (headerIn m) (numberIn (m .body))
 
 -- what is shown of a frame where the header has some room
 unfoldable pub frameShown : List ℕ → ℕ → Shown
-frameShown f room = roomy 4 9 room (answerShown (decode f))
+frameShown f room = roomy headerNumbers 9 room (answerShown (decode f))
 
 -- What is shown of a frame with its parts: a result, the numbers of the header, and those of rows.
 pub record AllShown : Type 0 where
@@ -55,7 +59,7 @@ answerAll f first room (accepted m) =
 
 -- what is shown where header and rows have some room
 unfoldable pub allShown : List ℕ → ℕ → ℕ → ℕ → AllShown
-allShown f first headerRoom room = cond (ltb headerRoom 4) (refuses 9) (answerAll f first room (decode f))
+allShown f first headerRoom room = cond (ltb headerRoom headerNumbers) (refuses 9) (answerAll f first room (decode f))
 
 -- a function that shows all: its result, and the numbers from the start of the two lent slices, the others as they were
 pub record ShowingAll (shown : AllShown) (header rows : List ℕ) (result : ℕ) (header-exit rows-exit : List ℕ) : Type 0 where

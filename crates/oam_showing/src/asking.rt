@@ -60,7 +60,7 @@ pub fn read_descriptors(frame: &[u8], descriptors: &mut [u32]) -> u64
 {
     match frame::judgement_of(frame) {
         Judgement::Refused(answer) => answer as u64,
-        Judgement::Accepted(_) => {
+        Judgement::Accepted(_, _) => {
             if frame[17] != 2 {
                 return 10;
             }

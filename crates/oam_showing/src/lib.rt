@@ -2,8 +2,8 @@
 // of a Variable Request, and a line of the sent-event log.
 //
 // The answer of a function is a refusal's number, or 0; `read_all` and `read_descriptors` have a count above it. What is refused
-// leaves the lent slices as they were. The parts that rows are made of are those of the message that the frame says
-// (`proofs/Taking.antt`).
+// leaves the lent slices as they were. The parts that rows are made of are those of the message that the frame says, and the
+// numbers of skipped TLVs those of the walk over its body (`proofs/Taking.antt`).
 mod asking;
 mod lines;
 mod reading;
@@ -12,6 +12,7 @@ mod storing;
 
 pub use asking::read_descriptors;
 pub use lines::read_line;
+pub use reading::HEADER_NUMBERS;
 pub use reading::read;
 pub use reading::read_all;
 pub use reading::show_header;

@@ -12,6 +12,10 @@ use Rattle.text.specs.Put.{Put, Stored}
 use Rattle.text.proofs.Bounds.{by-bound}
 use Rattle.octets.proofs.Stores.{sets-append}
 
+-- a text that is stored where it fits
+abbrev Placed : List ℕ → List ℕ → ℕ → ℕ → List ℕ → Type 0
+Placed text entry at r exit = at + length text ≤ length entry → Stored text entry at r exit
+
 module _ (text entry : List ℕ) (at : ℕ) where
   -- it fits
   pub stored : {r : ℕ} {exit : List ℕ} → at + length text ≤ length entry → r ≡ at + length text → exit ≡ sets entry at text → Put text entry at r exit
@@ -22,7 +26,7 @@ module _ (text entry : List ℕ) (at : ℕ) where
   refused h = record { next = simp (lt-leb (at + length text) (length entry) h); output = simp (lt-leb (at + length text) (length entry) h) }
 
   -- what is promised where it fits
-  pub fitting : {r : ℕ} {exit : List ℕ} → Put text entry at r exit → at + length text ≤ length entry → Stored text entry at r exit
+  pub fitting : {r : ℕ} {exit : List ℕ} → Put text entry at r exit → Placed text entry at r exit
   fitting p h = record { within = h; next = p .next ∙ simp (le-leb (at + length text) (length entry) h); output = p .output ∙ simp (le-leb (at + length text) (length entry) h) }
 
   -- either way the result is within the output
@@ -32,11 +36,18 @@ module _ (text entry : List ℕ) (at : ℕ) where
       (λ short. let same : r ≡ at = p .next ∙ simp (lt-leb (at + length text) (length entry) short) in omega arith)
       (λ room. omega (arith, fitting p room .next))
 
--- one text, and another after it
-pub joined : {a b entry middle exit : List ℕ} {at r r' : ℕ} → Stored a entry at r middle → Stored b middle r r' exit → Stored (a ++ b) entry at r' exit
-joined {a} {b} {entry} {at = at} p q =
+-- one text leaves room for another after it, where both fit
+pub room-after : {a entry middle : List ℕ} {at r : ℕ} (b : List ℕ) → Placed a entry at r middle → at + length (a ++ b) ≤ length entry → r + length b ≤ length middle
+room-after {a} {entry} {at = at} b p room =
+    let first = p (omega (arith, length-append a b)) in
+    omega (arith, first .next, length-append a b, ap length (first .output), length-sets entry at a)
+
+pub joined : {a b entry middle exit : List ℕ} {at r r' : ℕ} → Placed a entry at r middle → Placed b middle r r' exit → Placed (a ++ b) entry at r' exit
+joined {a} {b} {entry} {at = at} p q room =
+    let first = p (omega (arith, length-append a b)) in
+    let second = q (room-after b p room) in
     record {
-      within = omega (arith, q .within, p .next, length-append a b, ap length (p .output), length-sets entry at a);
-      next = q .next ∙ rw (p .next, length-append a b) (add-assoc at (length a) (length b));
-      output = q .output ∙ rw (p .output, p .next, sets-append entry at a b);
+      within = room;
+      next = second .next ∙ rw (first .next, length-append a b) (add-assoc at (length a) (length b));
+      output = second .output ∙ rw (first .output, first .next, sets-append entry at a b);
     }

@@ -12,5 +12,6 @@ module _ (f : List ℕ) where
   pub entry-refused : (n : ℕ) → judgementOf f ≡ JudgedRefused n → Refused n ≡ entryOf (decode f)
   entry-refused n j = rw (judged-refused f n j)
 
-  pub entry-accepted : (at : ℕ) → judgementOf f ≡ JudgedAccepted at → Accepted (headerOf f .code) (headerOf f .flags) ≡ entryOf (decode f)
-  entry-accepted at j = let a = judged-accepted f at j .1 in rw (a .decoded, a .header)
+  pub entry-accepted : (at skipped : ℕ) → judgementOf f ≡ JudgedAccepted at skipped
+      → Accepted (headerOf f skipped .code) (headerOf f skipped .flags) (headerOf f skipped .skipped) ≡ entryOf (decode f)
+  entry-accepted at skipped j = let a = judged-accepted f at skipped j .1 in rw (a .decoded, a .header)

@@ -10,7 +10,7 @@ use crate::line::values;
 use crate::row::Entry;
 use crate::row::ROW;
 use crate::row::frame_entry;
-use crate::row::put_row;
+use crate::row::store_row;
 use octets::LONGEST_FRAME;
 use text::NEWLINE;
 
@@ -91,10 +91,10 @@ pub fn feed(place: Place, frame: &mut [u8], piece: &[u8], out: &mut [u8]) -> Pla
         line = Line::fresh();
         taken += 1;
         let Decoded::Length(length) = decoded else {
-            waiting = put_row(out, waiting, ended, Entry::Refused(14));
+            waiting = store_row(out, waiting, ended, Entry::Refused(14));
             continue;
         };
-        waiting = put_row(out, waiting, ended, length_entry(frame, length));
+        waiting = store_row(out, waiting, ended, length_entry(frame, length));
     }
     Place {
         progress: Progress { number, line },

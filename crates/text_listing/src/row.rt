@@ -4,56 +4,91 @@ ghost use Prim.Native.Nat.{_+_, _≤_};
 ghost use lib.ListN.{length};
 ghost use Rattle.frame.specs.Frame.{decode};
 ghost use Rattle.text.specs.Put.{Put, Stored};
-ghost use Rattle.text_listing.specs.Rows.{header, columns, rowOf, rowRoom, entryOf};
+ghost use Rattle.text_listing.specs.Rows.{header, columns, rowOf, entryOf};
 use frame::Judgement;
 use text::NEWLINE;
 use text::TAB;
 
-// What a row says: the code and the flags of an accepted frame, or the number of a refusal.
+// What a row says: the code and the flags of an accepted frame and how many TLVs were skipped, or the number of a refusal.
 pub enum Entry {
-    Accepted(u8, u16),
+    Accepted(u8, u16, usize),
     Refused(u8),
 }
 
-// Room for any row: a number of 20 digits, a code of 3, flags of 5, the answer 0, three tabs and a newline.
-pub const ROW: usize = 33;
+// Room for any row: a number of 20 digits, a code of 3, flags of 5, the answer 0, a count of 20, four tabs and a newline.
+pub const ROW: usize = 54;
 
 // The header of every listing, at the output's front.
 pub fn put_header(out: &mut [u8]) -> usize
     ensures { λ r. ⌜ Put header (now (out .entry)) 0 r (now (out .exit)) ⌝ }
 {
-    text::put_words(out, 0, b"no\tcode\tflags\tanswer\n")
+    text::put_words(out, 0, b"no\tcode\tflags\tanswer\tskipped\n")
 }
 
-// The columns of an accepted frame: 3 digits, 5 and 1 at most, each with the octet after it.
-fn put_accepted(out: &mut [u8], at: usize, code: u8, flags: u16) -> usize
-    requires { ⌜ at + 12 ≤ length (now out) ⌝ }
-    ensures { λ r. ⌜ Stored (columns (Entry.Accepted code flags)) (now (out .entry)) at r (now (out .exit)) ⌝ }
+// How many octets a row has: the digits of its numbers, the answer 0 or three dashes, four tabs and a newline.
+fn row_octets(number: u64, entry: Entry) -> usize
+    ensures { λ r. ⌜ r ≡ length (rowOf number entry) ⌝ }
+{
+    let digits = text::digits(number);
+    match entry {
+        Entry::Accepted(code, flags, skipped) => {
+            digits
+                + text::digits(code as u64)
+                + text::digits(flags as u64)
+                + text::digits(skipped as u64)
+                + 6
+        }
+        Entry::Refused(answer) => digits + text::digits(answer as u64) + 8,
+    }
+}
+
+// The columns of an accepted frame.
+fn store_accepted(out: &mut [u8], at: usize, code: u8, flags: u16, skipped: usize) -> usize
+    requires { ⌜ at + length (columns (Entry.Accepted code flags skipped)) ≤ length (now out) ⌝ }
+    ensures { λ r. ⌜ Stored (columns (Entry.Accepted code flags skipped)) (now (out .entry)) at r (now (out .exit)) ⌝ }
 {
     let after_code = text::put_decimal(out, at, code as u64, TAB);
     let after_flags = text::put_decimal(out, after_code, flags as u64, TAB);
-    text::put_decimal(out, after_flags, 0, NEWLINE)
+    let after_answer = text::put_decimal(out, after_flags, 0, TAB);
+    text::put_decimal(out, after_answer, skipped as u64, NEWLINE)
 }
 
-// The columns of a refusal: two dashes, and 3 digits at most.
-fn put_refused(out: &mut [u8], at: usize, answer: u8) -> usize
-    requires { ⌜ at + 8 ≤ length (now out) ⌝ }
+// The columns of a refusal.
+fn store_refused(out: &mut [u8], at: usize, answer: u8) -> usize
+    requires { ⌜ at + length (columns (Entry.Refused answer)) ≤ length (now out) ⌝ }
     ensures { λ r. ⌜ Stored (columns (Entry.Refused answer)) (now (out .entry)) at r (now (out .exit)) ⌝ }
 {
     let after_dashes = text::put_words(out, at, b"-\t-\t");
-    text::put_decimal(out, after_dashes, answer as u64, NEWLINE)
+    let after_answer = text::put_decimal(out, after_dashes, answer as u64, TAB);
+    text::put_words(out, after_answer, b"-\n")
 }
 
 // The row of a number and an entry, from octet at.
-pub(crate) fn put_row(out: &mut [u8], at: usize, number: u64, entry: Entry) -> usize
-    requires { ⌜ at + rowRoom ≤ length (now out) ⌝ }
+pub(crate) fn store_row(out: &mut [u8], at: usize, number: u64, entry: Entry) -> usize
+    requires { ⌜ at + length (rowOf number entry) ≤ length (now out) ⌝ }
     ensures { λ r. ⌜ Stored (rowOf number entry) (now (out .entry)) at r (now (out .exit)) ⌝ }
 {
     let after_number = text::put_decimal(out, at, number, TAB);
     match entry {
-        Entry::Accepted(code, flags) => put_accepted(out, after_number, code, flags),
-        Entry::Refused(answer) => put_refused(out, after_number, answer),
+        Entry::Accepted(code, flags, skipped) => store_accepted(
+            out,
+            after_number,
+            code,
+            flags,
+            skipped,
+        ),
+        Entry::Refused(answer) => store_refused(out, after_number, answer),
     }
+}
+
+// The same where it may not fit: then nothing is stored. (`feed` asks for the room of any row, and counts the digits once.)
+pub fn put_row(out: &mut [u8], at: usize, number: u64, entry: Entry) -> usize
+    ensures { λ r. ⌜ Put (rowOf number entry) (now (out .entry)) at r (now (out .exit)) ⌝ }
+{
+    if text::room_from(out, at) < row_octets(number, entry) {
+        return at;
+    }
+    store_row(out, at, number, entry)
 }
 
 // What a frame's row says of it.
@@ -62,9 +97,9 @@ pub fn frame_entry(frame: &[u8]) -> Entry
 {
     match frame::judgement_of(frame) {
         Judgement::Refused(answer) => Entry::Refused(answer),
-        Judgement::Accepted(_) => {
-            let header = frame::header_of(frame);
-            Entry::Accepted(header.code, header.flags)
+        Judgement::Accepted(_, skipped) => {
+            let header = frame::header_of(frame, skipped);
+            Entry::Accepted(header.code, header.flags, header.skipped as usize)
         }
     }
 }

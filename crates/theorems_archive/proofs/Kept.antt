@@ -40,6 +40,7 @@ use Rattle.theorems_reach.proofs.Refusing.{refused-end}
 use Rattle.theorems_reach.proofs.Standing.{fresh-ranged}
 use Rattle.theorems_reach.proofs.Ranging.{call-ranged}
 use Rattle.theorems_reach.proofs.Counting.{opened, call-meter, counted-ticks}
+use Rattle.oam_showing.specs.Reading.{headerNumbers}
 use Rattle.oam.specs.Machine.{answerOf, outputAfter, newsShown, heardIn, freshFor, freshState, reportFrom, reportedBy, receivedBy}
 use Rattle.oam.specs.Ticking.{arisenRoom, arisenNumbers, tickedBy, tickedNumber, tickedState, eventsAfterTick}
 use Rattle.theorems_archive.specs.Entries.{EntryInput, ticks, reports, receives, asks, EntryCall, isTicks, outcomeFor, outputFor, answerFor, stateFor, comesTo, watchFor, keptAfter, callOf, callsIn, countBy, countsIn, tickCall, tickThen, EntryOctets, AllOfOctetsIn}
@@ -169,7 +170,7 @@ stored-entry (reports n) out x e o k =
     (λ t. let b = stored-call x e (record { input = report (reportFrom n); out = out }) refl tt k in record { end = rw (k, t) (b .end); watch = rw (k, t) (b .watch) })
     (λ f. record { end = rw (k, f) k; watch = rw (k, f) })
 stored-entry (receives f room) out x e o k =
-    whether (ltb room 4)
+    whether (ltb room headerNumbers)
     (λ t. record { end = rw (k, t) k; watch = rw (k, t) })
     (λ g. let b = stored-call x e (record { input = receive f; out = out }) refl o k in record { end = rw (k, g) (b .end); watch = rw (k, g) (b .watch) })
 stored-entry (asks q) out x e o k =

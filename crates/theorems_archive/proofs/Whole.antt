@@ -34,6 +34,7 @@ use Rattle.theorems_reach.specs.Premises.{OfOctets}
 use Rattle.theorems_reach.proofs.Coming.{duesAfter, Comes, refuses, concludes, grants, comes}
 use Rattle.theorems_reach.proofs.Refusing.{concludes-0}
 use Rattle.theorems_reach.proofs.Framing.{silent-or-writes}
+use Rattle.oam_showing.specs.Reading.{headerNumbers}
 use Rattle.oam.specs.Machine.{reportFrom, reportedBy, receivedBy}
 use Rattle.oam.specs.Ticking.{arisenCount, countedEvents, arisenRoom, tickedBy, tickedNumber}
 use Rattle.theorems_archive.specs.Entries.{EntryInput, ticks, reports, receives, asks, EntryCall, outcomeFor, arisenFor, answerFor, comesTo, EntryOctets, InBits}
@@ -116,7 +117,7 @@ entry-small (ticks count room) out e o r =
 entry-small (reports n) out e o r =
     by-cond Small (leb n 5) (λ _. call-small (record { input = report (reportFrom n); out = out }) e tt r) (λ _. refusal-small 10 e (omega arith))
 entry-small (receives f room) out e o r =
-    by-cond Small (ltb room 4) (λ _. refusal-small 9 e (omega arith)) (λ _. call-small (record { input = receive f; out = out }) e o r)
+    by-cond Small (ltb room headerNumbers) (λ _. refusal-small 9 e (omega arith)) (λ _. call-small (record { input = receive f; out = out }) e o r)
 entry-small (asks q) out e o r = call-small (record { input = request q; out = out }) e tt r
 
 -- two events at most

@@ -21,6 +21,7 @@ use Rattle.oam_packing.specs.Octets.{unpacked, watchIn}
 use Rattle.theorems_reach.specs.Machine.{Request, tick, report, receive, request, Call, outcomeBy, outputBy}
 use Rattle.theorems_reach.specs.Runs.{after}
 use Rattle.theorems_reach.specs.Premises.{OfOctets}
+use Rattle.oam_showing.specs.Reading.{headerNumbers}
 use Rattle.oam.specs.Machine.{answerOf, stateAfter, freshFor, freshState, reportFrom, reportedBy, reportedOutput, receivedBy, receivedOutput}
 use Rattle.oam.specs.Ticking.{arisenRoom, countedEvents, tickedBy, tickedOutput, answerOfTick, stateAfterTick}
 
@@ -99,7 +100,7 @@ keptAfter s w state (x ∷ xs) = stateFor (x .input) (length (x .out)) (keptAfte
 abbrev pub callOf : EntryInput → List ℕ → List Call
 callOf (ticks count room) out = cond (ltb room arisenRoom) [] (record { input = tick; out = out } ∷ [])
 callOf (reports n) out = cond (leb n 5) (record { input = report (reportFrom n); out = out } ∷ []) []
-callOf (receives f room) out = cond (ltb room 4) [] (record { input = receive f; out = out } ∷ [])
+callOf (receives f room) out = cond (ltb room headerNumbers) [] (record { input = receive f; out = out } ∷ [])
 callOf (asks q) out = record { input = request q; out = out } ∷ []
 
 abbrev pub callsIn : List EntryCall → List Call

@@ -29,7 +29,7 @@ use Rattle.octets.proofs.Numbers.{octets-from}
 use Rattle.frame_writer.proofs.Lengths.{length-containers, plain-body}
 use Rattle.frame_writer.proofs.Walking.{these, walk-read, walk-again}
 use Rattle.frame_writer.proofs.Containing.{container-codes, containers-fit}
-use Rattle.theorems_frame.proofs.RoundTrip.{written-again, plain-frame}
+use Rattle.theorems_frame.proofs.RoundTrip.{written-again, plain-frame, plain-unskipped}
 use Rattle.theorems_frame.specs.PlainFrame.{plainAnswer, plainFrame}
 use Rattle.theorems_frame.specs.Handing.{sevens, foundIn, containersPart, is, handedBy, handed, Again, ContainersAgain}
 
@@ -110,7 +110,8 @@ pub handed-again : (f : List ℕ) (m : Message) → Octets f → plain m ≡ tru
 unfolding judgementOf
 handed-again f m o p d =
     rw (d, header-agrees f m d)
-    (body-again f o (m .source) (m .flags) (m .body) (plain-body m p) (steps-give-parts f m d) (number-agrees f m d))
+    (body-again f o (m .source) (m .flags) (m .body) (plain-body m p) (steps-give-parts f m d) (number-agrees f m d)
+    ∙ (λ i. is (record { source = m .source; flags = m .flags; skipped = sym (plain-unskipped m p) i; body = m .body })))
 
 -- the writer of a message that is in plain form, where the output is long enough
 module _ (m : Message) (p : plain m ≡ true) (f : List ℕ) (e : encode m ≡ f) (out : List ℕ) (h : length f ≤ length out) where

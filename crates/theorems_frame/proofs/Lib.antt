@@ -9,3 +9,4 @@ pub mod RoundTrip
 pub mod Fitting
 pub mod Handing
 pub mod Responding
+pub mod Skipping

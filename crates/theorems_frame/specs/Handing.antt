@@ -72,7 +72,7 @@ handedBy f h =
 -- the same of a frame that is judged
 abbrev pub handed : List ℕ → Judgement → Handed
 handed f (Refused n) = nothing
-handed f (Accepted at) = handedBy f (headerOf f)
+handed f (Accepted at skipped) = handedBy f (headerOf f skipped)
 
 -- there is such a writer, what it is handed has a form, and where its output is long enough it writes the very frame
 pub record Again (f : List ℕ) : Type 0 where

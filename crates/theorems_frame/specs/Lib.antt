@@ -3,3 +3,4 @@ pub mod PlainFrame
 pub mod Handing
 pub mod Tables
 pub mod Responding
+pub mod Skipping

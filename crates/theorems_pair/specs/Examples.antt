@@ -41,7 +41,7 @@ reads f = answer (decode f)
 
 -- such a frame that is accepted with a loopback command
 abbrev commands : ℕ → Seen
-commands n = answer (accepted (record { source = 0x020000000001; flags = 0x50; body = loopback n }))
+commands n = answer (accepted (record { source = 0x020000000001; flags = 0x50; skipped = 0; body = loopback n }))
 
 -- a TLV of type 01 with so many octets
 abbrev local : ℕ → List ℕ

@@ -6,3 +6,4 @@ pub mod Runs
 pub mod Premises
 pub mod Moving
 pub mod Ordering
+pub mod Showing

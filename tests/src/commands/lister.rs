@@ -4,12 +4,16 @@
 use super::arguments::Arguments;
 use super::process::{Program, Ran, TemporaryFile};
 use super::Outcome;
-use oam_tests::compare::{differences, grouped, shortened, Difference};
+use oam_tests::compare::{differences, grouped, hex, shortened, Difference};
 use oam_tests::generate::{any_frame, mixed_lines, of_frame, spoilt, Line};
-use oam_tests::paper::{answer, answers, code, lines, listing};
+use oam_tests::paper::{answer, answers, code, lines, listing, Heading};
 use oam_tests::random::{seed_from_clock, Random};
 use std::collections::BTreeMap;
+use std::ops::RangeInclusive;
 use std::time::Duration;
+
+#[cfg(test)]
+mod tests;
 
 const FRAMES: u64 = 200_000;
 /// Frames that are also fed octet by octet.
@@ -78,11 +82,23 @@ fn joined(lines: &[Line]) -> Vec<u8> {
     input
 }
 
-/// How often each answer was due, and each code accepted.
+/// Numbers of skipped TLVs that must come, each with the codes of which it must.
+const SKIPPED: [(RangeInclusive<usize>, &[u8]); 6] = [
+    (0..=0, &code::ALL),
+    (1..=5, TLVS),
+    (6..=100, TLVS),
+    (101..=748, TLVS),
+    (748..=748, &[code::INFORMATION]),
+    (747..=747, &[code::NOTIFICATION]),
+];
+const TLVS: &[u8] = &[code::INFORMATION, code::NOTIFICATION];
+
+/// How often each answer was due, each code accepted, and such numbers of TLVs skipped.
 struct Tally {
     lines: usize,
     answers: BTreeMap<u8, usize>,
     codes: BTreeMap<u8, usize>,
+    skipped: [usize; SKIPPED.len()],
 }
 
 impl Tally {
@@ -91,6 +107,7 @@ impl Tally {
             lines: 0,
             answers: answer::ALL.map(|answer| (answer, 0)).into(),
             codes: code::ALL.map(|code| (code, 0)).into(),
+            skipped: [0; SKIPPED.len()],
         };
         for answer in answers(input) {
             tally.lines += 1;
@@ -98,12 +115,20 @@ impl Tally {
             *tally.answers.entry(number).or_default() += 1;
             if let Ok(heading) = answer {
                 *tally.codes.entry(heading.code).or_default() += 1;
+                tally.count_skipped(&heading);
             }
         }
         tally
     }
 
-    /// Shows the counts; an answer or a code that never came is a failure.
+    fn count_skipped(&mut self, heading: &Heading) {
+        for (count, (range, codes)) in self.skipped.iter_mut().zip(&SKIPPED) {
+            let is_one = range.contains(&heading.skipped) && codes.contains(&heading.code);
+            *count += usize::from(is_one);
+        }
+    }
+
+    /// Shows the counts; one that is 0 is a failure.
     fn report(&self) -> Outcome {
         println!("{} lines, of them", grouped(self.lines));
         for (answer, count) in &self.answers {
@@ -113,9 +138,13 @@ impl Tally {
         for (code, count) in &self.codes {
             println!("  {:>9} of code {code:02X}", grouped(*count));
         }
-        let mut counts = self.answers.values().chain(self.codes.values());
-        if counts.any(|&count| count == 0) {
-            return Err("an answer or an accepted code was never reached".into());
+        for (count, (range, codes)) in self.skipped.iter().zip(&SKIPPED) {
+            let (count, codes) = (grouped(*count), hex(codes));
+            println!("  {count:>9} with {range:?} TLVs skipped, of codes {codes}");
+        }
+        let counts = self.answers.values().chain(self.codes.values());
+        if counts.chain(&self.skipped).any(|&count| count == 0) {
+            return Err("an answer, a code or a number of skipped TLVs was never reached".into());
         }
         Ok(())
     }
@@ -275,35 +304,4 @@ fn tiny_inputs() -> Vec<String> {
         inputs.push(lines);
     }
     inputs
-}
-
-#[cfg(test)]
-mod tests {
-    use super::*;
-
-    #[test]
-    fn a_tally_that_misses_an_answer_is_a_failure() {
-        assert!(Tally::of(b"\n").report().is_err());
-    }
-
-    #[test]
-    fn the_tally_counts_each_line_once() {
-        let tally = Tally::of(paper_lines().join("\n").as_bytes());
-        assert_eq!(tally.lines, 2);
-        assert_eq!(tally.answers[&answer::ACCEPTED], 1);
-        assert_eq!(tally.answers[&answer::COMMAND], 1);
-        assert_eq!(tally.codes[&code::LOOPBACK], 1);
-    }
-
-    #[test]
-    fn few_lines_are_as_claimed() {
-        assert!(check_claims(&few_lines(&mut Random::new(5))).is_ok());
-    }
-
-    #[test]
-    fn a_false_claim_is_found() {
-        let mut lines = few_lines(&mut Random::new(5));
-        lines[7].claim = oam_tests::generate::Claim::Refused(13);
-        assert!(check_claims(&lines).is_err());
-    }
 }

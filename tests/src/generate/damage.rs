@@ -2,7 +2,7 @@
 
 use super::messages::any_code;
 use super::sequence::any_sequence;
-use super::valid::{loose, plain_or_loose, Edge, Layout};
+use super::valid::{loose, plain_or_loose, Layout};
 use super::{encode, Claim, Made};
 use crate::paper::{answer, code, Body, Message, BODY, LONGEST, SHORTEST};
 use crate::random::Random;
@@ -86,7 +86,7 @@ pub fn cut_to(layout: &Layout, length: usize) -> Made {
     let claim = match (layout.edges.last(), at_edge) {
         (None, _) => Claim::Accepted(with_less_data(&layout.message, length)),
         (Some(end), _) if length >= end.at => Claim::Accepted(layout.message.clone()),
-        (Some(_), Some(edge)) => Claim::Accepted(layout.first_parts(edge.parts)),
+        (Some(_), Some(edge)) => Claim::Accepted(layout.ended_at(edge)),
         (Some(_), None) => Claim::Refused(answer::BROKEN),
     };
     Made { frame, claim }
@@ -107,9 +107,9 @@ pub fn ended_early(random: &mut Random, code: u8) -> Made {
     if layout.edges.len() < 2 {
         return layout.made();
     }
-    let Edge { at, parts } = layout.edges[random.below(layout.edges.len() - 1)];
-    layout.frame[at] = 0;
-    layout.message = layout.first_parts(parts);
+    let edge = layout.edges[random.below(layout.edges.len() - 1)];
+    layout.frame[edge.at] = 0;
+    layout.message = layout.ended_at(&edge);
     layout.made()
 }
 

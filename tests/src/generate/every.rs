@@ -1,15 +1,17 @@
 //! Sets of frames that are gone through to the last one: every value of the
 //! header's fields, every TLV length and type, every width, every command, every
-//! order of Information TLVs, and lists cut at each of their edges.
+//! order of Information TLVs, crowds of unknown TLVs, and lists cut at each of their
+//! edges.
 
+use super::crowd::every_crowd;
 use super::damage::{cut_to, with_command};
 use super::messages::{descriptor, event, information, Style};
 use super::sequence::every_sequence;
 use super::valid::{any_tlv, loose};
 use super::{encode, Claim, Made};
 use crate::paper::{
-    answer, code, Body, Container, Content, Message, Part, BODY, EVENTS, INFORMATION_LENGTH,
-    LONGEST, SHORTEST, SUBTYPE,
+    answer, code, Body, Container, Content, Message, Part, Skipped, BODY, EVENTS,
+    INFORMATION_LENGTH, LONGEST, SHORTEST, SUBTYPE,
 };
 use crate::random::Random;
 
@@ -29,18 +31,15 @@ pub fn every_frame(random: &mut Random) -> Vec<Made> {
     frames.extend(commands(random));
     frames.extend(tlvs_at_end(random));
     frames.extend(every_sequence(random));
+    frames.extend(every_crowd(random));
     frames.extend(widths_at_end(random));
     frames.extend(full_requests(random));
     frames.extend(cuts(random));
     frames
 }
 
-fn message_of(body: Body<'static>) -> Message<'static> {
-    Message {
-        source: SOURCE,
-        flags: FLAGS,
-        body,
-    }
+pub fn message_of(body: Body<'static>) -> Message<'static> {
+    Message::without_skips(SOURCE, FLAGS, body)
 }
 
 /// A frame of zeros behind its header, and what it says. Code 04 has command 1.
@@ -142,15 +141,20 @@ fn tlvs_at_end(random: &mut Random) -> Vec<Made> {
 /// behind octet 60.
 fn tlv_at_end(random: &mut Random, code: u8, kind: u8, length: u8) -> [Made; 4] {
     let number = random.value(2) as u16;
-    let none = message_of(empty_list(code, number));
+    let mut none = message_of(empty_list(code, number));
     let start = encode::start(&none);
     let filler = any_tlv(random, 0x7E, 44);
     let (tlv, claim) = match known_length(code, kind) {
         Some(right) if right == usize::from(length) => {
-            let one = message_of(list_of_one(random, code, kind, number));
+            let mut one = message_of(list_of_one(random, code, kind, number));
+            let (before, total) = (vec![1], 1);
+            one.skipped = Skipped { before, total };
             (encode::parts(&one.body).concat(), Claim::Accepted(one))
         }
-        None if length >= 2 => (any_tlv(random, kind, length), Claim::Accepted(none)),
+        None if length >= 2 => {
+            none.skipped.total = 2;
+            (any_tlv(random, kind, length), Claim::Accepted(none))
+        }
         _ => (
             any_tlv(random, kind, length),
             Claim::Refused(answer::BROKEN),

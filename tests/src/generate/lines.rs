@@ -184,11 +184,7 @@ fn loopback_of(random: &mut Random, length: usize) -> Line {
 fn short_frames(random: &mut Random) -> [Line; 3] {
     let descriptors = (0..14).map(|_| descriptor(random)).collect();
     let (source, flags) = (random.array(), random.value(2) as u16);
-    let message = Message {
-        source,
-        flags,
-        body: Body::Request(descriptors),
-    };
+    let message = Message::without_skips(source, flags, Body::Request(descriptors));
     let full = encode::plain(&message);
     let short = Line::refused(hex(&full[..SHORTEST - 1]), answer::LENGTH);
 

@@ -27,11 +27,8 @@ pub fn any_code(random: &mut Random) -> u8 {
 }
 
 pub fn any_message(random: &mut Random, code: u8, style: Style) -> Message<'static> {
-    Message {
-        source: random.field(),
-        flags: flags(random, style),
-        body: body(random, code, style),
-    }
+    let (source, flags) = (random.field(), flags(random, style));
+    Message::without_skips(source, flags, body(random, code, style))
 }
 
 fn flags(random: &mut Random, style: Style) -> u16 {

@@ -4,6 +4,7 @@
 
 mod beyond;
 mod containers;
+mod crowd;
 mod damage;
 mod drafts;
 mod encode;

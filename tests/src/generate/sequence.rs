@@ -4,7 +4,7 @@
 use super::messages::{information, Style};
 use super::valid::{unknown_tlv, unknown_type};
 use super::{encode, Claim, Made};
-use crate::paper::{answer, code, Body, Message, Part, SHORTEST};
+use crate::paper::{answer, code, Body, Message, Part, Skipped, SHORTEST};
 use crate::random::Random;
 
 #[derive(Clone, Copy)]
@@ -76,10 +76,11 @@ fn sequence(random: &mut Random, kinds: &[Kind]) -> Made {
     let length = frame.len().max(SHORTEST);
     frame.resize(length, 0);
     let claim = match parts_of(&pieces) {
-        Ok(parts) => Claim::Accepted(Message {
+        Ok((parts, skipped)) => Claim::Accepted(Message {
             source,
             flags,
             body: Body::Information(parts),
+            skipped,
         }),
         Err(answer) => Claim::Refused(answer),
     };
@@ -113,20 +114,23 @@ fn of_other_length(random: &mut Random, part: &Part) -> Vec<u8> {
     octets
 }
 
-/// The parts that are read, or the first answer. At one TLV 6 comes before 7,
-/// so that a second Local of another length is broken and nothing else.
-fn parts_of(pieces: &[Piece]) -> Result<Vec<Part>, u8> {
-    let mut parts = Vec::new();
+/// The parts that are read and what is skipped, or the first answer. At one TLV 6
+/// comes before 7, so that a second Local of another length is broken and nothing else.
+fn parts_of(pieces: &[Piece]) -> Result<(Vec<Part>, Skipped), u8> {
+    let (mut parts, mut skipped) = (Vec::new(), Skipped::default());
     for piece in pieces {
         match piece.sense {
             Sense::Whole(part) if holds_same_type(&parts, part) => return Err(answer::SECOND),
-            Sense::Whole(part) => parts.push(part),
-            Sense::Skipped => {}
+            Sense::Whole(part) => {
+                parts.push(part);
+                skipped.before.push(skipped.total);
+            }
+            Sense::Skipped => skipped.total += 1,
             Sense::Broken => return Err(answer::BROKEN),
             Sense::End => break,
         }
     }
-    Ok(parts)
+    Ok((parts, skipped))
 }
 
 fn holds_same_type(parts: &[Part], part: Part) -> bool {

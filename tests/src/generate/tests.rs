@@ -159,6 +159,25 @@ fn loose_tlvs_are_mixed_with_unknown_ones() {
 }
 
 #[test]
+fn loose_tlvs_are_skipped_by_the_hundred_and_behind_the_end() {
+    for code in [code::INFORMATION, code::NOTIFICATION] {
+        let (mut hundreds, mut behind) = (0, 0);
+        for layout in layouts(code) {
+            let end = layout.edges.last().expect("a list has edges").at;
+            let rest = layout.frame.get(end + 1..).unwrap_or_default();
+            let is_tlv = match *rest {
+                [5..=0xFF, length @ 2..=0xFF, ..] => usize::from(length) <= rest.len(),
+                _ => false,
+            };
+            hundreds += usize::from(layout.message.skipped.total > 100);
+            behind += usize::from(is_tlv);
+        }
+        assert!(hundreds > TIMES / 50, "{hundreds}");
+        assert!(behind > TIMES / 8, "{behind}");
+    }
+}
+
+#[test]
 fn loose_edges_are_where_parts_begin() {
     for layout in layouts(code::NOTIFICATION) {
         for pair in layout.edges.windows(2) {
@@ -339,6 +358,23 @@ fn every_tlv_length_stands_at_a_frames_end() {
             }
         }
         assert!((1..=255).all(|kind| at_end.contains(&(code, kind, 16))));
+    }
+}
+
+#[test]
+fn crowds_are_as_large_as_a_frame_allows() {
+    let frames = every_frame(&mut random());
+    let skipped = |wanted: u8| -> BTreeSet<usize> {
+        let of_code = frames.iter().filter_map(|made| match &made.claim {
+            Claim::Accepted(message) if message.body.code() == wanted => Some(message),
+            _ => None,
+        });
+        of_code.map(|message| message.skipped.total).collect()
+    };
+    for (code, most) in [(code::INFORMATION, 748), (code::NOTIFICATION, 747)] {
+        let skipped = skipped(code);
+        assert!(skipped.is_superset(&[0, 1, 2, 255, 256, 513, most - 1].into()));
+        assert_eq!(skipped.last(), Some(&most));
     }
 }
 

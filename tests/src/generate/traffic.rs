@@ -5,6 +5,7 @@ use super::damage::any_damage;
 use super::lines::{of_frame, spoilt};
 use super::messages::any_code;
 use super::valid::{loose, plain};
+use super::Made;
 use crate::paper::code;
 use crate::random::Random;
 
@@ -25,7 +26,7 @@ pub const TRAFFIC: [Kind; 9] = [
     Kind {
         name: "Information with unknown TLVs and other loose forms",
         share: 4,
-        make: |random| of_frame(loose(random, code::INFORMATION).made()).text,
+        make: |random| of_frame(loose_information(random)).text,
     },
     Kind {
         name: "Event Notification, 1 to 4 events",
@@ -69,6 +70,17 @@ pub const TRAFFIC: [Kind; 9] = [
         },
     },
 ];
+
+/// Loose, but not crowded with unknown TLVs: no record holds such a frame.
+fn loose_information(random: &mut Random) -> Made {
+    const MOST_SKIPPED: usize = 20;
+    loop {
+        let layout = loose(random, code::INFORMATION);
+        if layout.message.skipped.total <= MOST_SKIPPED {
+            return layout.made();
+        }
+    }
+}
 
 /// A line without its newline, and the place of its kind in `TRAFFIC`.
 pub fn traffic_line(random: &mut Random) -> (usize, Vec<u8>) {

@@ -22,6 +22,8 @@ pub struct Edge {
     pub at: usize,
     /// How many of the message's parts stand before it; skipped TLVs are none.
     pub parts: usize,
+    /// How many skipped TLVs do.
+    pub skipped: usize,
 }
 
 impl Layout {
@@ -42,15 +44,46 @@ impl Layout {
         }
     }
 
-    /// Notes that a list stands open behind the first `parts` parts.
-    fn put_edge(&mut self, parts: usize) {
-        let at = self.frame.len();
-        self.edges.push(Edge { at, parts });
+    /// A frame whose list stands open at its start.
+    pub fn with_list(message: Message<'static>) -> Self {
+        let mut layout = Layout::new(message);
+        layout.put_edge(0, 0);
+        layout
     }
 
-    /// The message when the list ends behind its first `count` parts.
-    pub fn first_parts(&self, count: usize) -> Message<'static> {
+    fn put_edge(&mut self, parts: usize, skipped: usize) {
+        let at = self.frame.len();
+        self.edges.push(Edge { at, parts, skipped });
+    }
+
+    fn last_edge(&self) -> Edge {
+        *self.edges.last().expect("a list stands open")
+    }
+
+    /// Puts the octets of the message's next part.
+    pub fn put_part(&mut self, part: &[u8]) {
+        let Edge { parts, skipped, .. } = self.last_edge();
+        if let Some(before) = self.message.skipped.before.get_mut(parts) {
+            *before = skipped;
+        }
+        self.frame.extend(part);
+        self.put_edge(parts + 1, skipped);
+    }
+
+    /// Puts a TLV that is skipped.
+    pub fn put_unknown(&mut self, tlv: &[u8]) {
+        let Edge { parts, skipped, .. } = self.last_edge();
+        self.message.skipped.total += 1;
+        self.frame.extend(tlv);
+        self.put_edge(parts, skipped + 1);
+    }
+
+    /// The message when the list ends at this edge.
+    pub fn ended_at(&self, edge: &Edge) -> Message<'static> {
         let mut message = self.message.clone();
+        let count = edge.parts;
+        message.skipped.before.truncate(count);
+        message.skipped.total = edge.skipped;
         match &mut message.body {
             Body::Information(parts) => parts.truncate(count),
             Body::Notification { events, .. } => events.truncate(count),
@@ -83,60 +116,86 @@ pub fn plain_or_loose(random: &mut Random, code: u8) -> Made {
 /// any order, octets behind the list's end, or a list that fills the frame.
 pub fn loose(random: &mut Random, code: u8) -> Layout {
     let message = any_message(random, code, Style::Loose);
-    let parts = encode::parts(&message.body);
-    let mut layout = Layout::new(message);
-    match code {
-        code::INFORMATION | code::NOTIFICATION => {
-            put_tlvs(random, &mut layout, &parts);
-            end_list(random, &mut layout.frame);
-        }
-        code::REQUEST | code::RESPONSE => {
-            put_list(&mut layout, &parts);
-            end_list(random, &mut layout.frame);
-        }
-        code::LOOPBACK => {
-            layout.frame.extend(parts.concat());
-            put_rest(random, &mut layout.frame);
-        }
-        // All octets to the frame's end are an organization's data.
-        _ => layout.frame.extend(parts.concat()),
-    }
-    layout
+    laid_loosely(random, message)
 }
 
-/// Puts the parts one behind the other.
-fn put_list(layout: &mut Layout, parts: &[Vec<u8>]) {
-    layout.put_edge(0);
-    for (part, count) in parts.iter().zip(1..) {
-        layout.frame.extend(part);
-        layout.put_edge(count);
+/// A frame of this message with unknown TLVs and with octets behind the list's end.
+pub fn laid_loosely(random: &mut Random, message: Message<'static>) -> Layout {
+    let code = message.body.code();
+    let parts = encode::parts(&message.body);
+    match code {
+        code::INFORMATION | code::NOTIFICATION => {
+            let mut layout = Layout::with_list(message);
+            put_tlvs(random, &mut layout, &parts);
+            end_tlvs(random, code, &mut layout.frame);
+            layout
+        }
+        code::REQUEST | code::RESPONSE => {
+            let mut layout = Layout::with_list(message);
+            parts.iter().for_each(|part| layout.put_part(part));
+            end_list(random, &mut layout.frame);
+            layout
+        }
+        _ => {
+            let mut layout = Layout::new(message);
+            layout.frame.extend(parts.concat());
+            // All octets to the frame's end are an organization's data.
+            if code == code::LOOPBACK {
+                put_rest(random, &mut layout.frame);
+            }
+            layout
+        }
     }
 }
+
+/// One frame of so many has unknown TLVs by the hundred.
+const CROWDED: usize = 24;
 
 /// Puts the parts with unknown TLVs before, between and behind them, and now
 /// and then one that fills the shortest frame.
 fn put_tlvs(random: &mut Random, layout: &mut Layout, parts: &[Vec<u8>]) {
     let code = layout.message.body.code();
     let mut spare = LONGEST - layout.frame.len() - parts.concat().len();
-    layout.put_edge(0);
-    for count in 0..=parts.len() {
-        while spare >= 2 && random.one_in(3) {
-            let tlv = unknown_tlv(random, code, spare);
-            spare -= tlv.len();
-            layout.frame.extend(tlv);
-            layout.put_edge(count);
-        }
-        if let Some(part) = parts.get(count) {
-            layout.frame.extend(part);
-            layout.put_edge(count + 1);
-        }
+    let put = match random.one_in(CROWDED) {
+        true => put_crowd,
+        false => put_few,
+    };
+    for part in parts {
+        spare -= put(random, layout, spare);
+        layout.put_part(part);
     }
+    put(random, layout, spare);
     let short_of = SHORTEST.saturating_sub(layout.frame.len());
     if short_of >= 2 && random.one_in(3) {
         let kind = unknown_type(random, code);
-        layout.frame.extend(any_tlv(random, kind, short_of as u8));
-        layout.put_edge(parts.len());
+        layout.put_unknown(&any_tlv(random, kind, short_of as u8));
     }
+}
+
+/// Puts no unknown TLV or a few, and gives their octets.
+fn put_few(random: &mut Random, layout: &mut Layout, spare: usize) -> usize {
+    let code = layout.message.body.code();
+    let mut put = 0;
+    while spare - put >= 2 && random.one_in(3) {
+        let tlv = unknown_tlv(random, code, spare - put);
+        put += tlv.len();
+        layout.put_unknown(&tlv);
+    }
+    put
+}
+
+/// Puts short ones in the same way, until the frame has up to 400.
+fn put_crowd(random: &mut Random, layout: &mut Layout, spare: usize) -> usize {
+    let code = layout.message.body.code();
+    let count = random.below(400);
+    let mut put = 0;
+    while layout.message.skipped.total < count && spare - put >= 3 {
+        let (kind, length) = (unknown_type(random, code), random.octet_between(2, 3));
+        let tlv = any_tlv(random, kind, length);
+        put += tlv.len();
+        layout.put_unknown(&tlv);
+    }
+    put
 }
 
 /// A TLV to be skipped, of `most` octets at most.
@@ -168,6 +227,26 @@ pub fn unknown_type(random: &mut Random, code: u8) -> u8 {
         2 => 0xFF,
         _ => random.octet_between(least, 0xFF),
     }
+}
+
+/// Ends a list of TLVs like any other, or so that unknown ones stand behind the zero
+/// octet.
+fn end_tlvs(random: &mut Random, code: u8, frame: &mut Vec<u8>) {
+    let room = LONGEST - frame.len();
+    if room < 3 || !random.one_in(4) {
+        return end_list(random, frame);
+    }
+    frame.push(0);
+    let mut room = room - 1;
+    while room >= 2 {
+        let tlv = unknown_tlv(random, code, room);
+        room -= tlv.len();
+        frame.extend(tlv);
+        if random.one_in(3) {
+            break;
+        }
+    }
+    put_rest(random, frame);
 }
 
 /// Ends a list at the frame's end, or by a zero octet with anything behind it;

@@ -1,6 +1,6 @@
 //! The library as this package's reading of the paper has it.
 
-use super::{kind, Library, HEADER, ROW};
+use super::{kind, Library, HEADER, ROW, ROW_PART, ROW_SKIPPED};
 use crate::paper::{
     answer, asked, joined, list, log, read, write, Body, Draft, Listed, Message, Part, Standing,
 };
@@ -93,6 +93,7 @@ pub(super) fn header_of(message: &Message) -> [u64; HEADER] {
         message.flags.into(),
         message.body.code().into(),
         fixed,
+        message.skipped.total as u64,
     ]
 }
 
@@ -124,7 +125,8 @@ fn row(standing: &Standing) -> Option<[u64; ROW]> {
     let mut row = [0; ROW];
     row[0] = kind;
     row[1] = standing.next as u64;
-    row[2..2 + numbers.len()].copy_from_slice(&numbers);
+    row[ROW_SKIPPED] = standing.skipped as u64;
+    row[ROW_PART..][..numbers.len()].copy_from_slice(&numbers);
     Some(row)
 }
 
@@ -182,7 +184,7 @@ mod tests {
     }
 
     #[test]
-    fn a_header_is_source_flags_code_and_the_fixed_number() {
+    fn a_header_is_source_flags_code_the_fixed_number_and_what_is_skipped() {
         for (code, body, fixed) in [
             (0, &[][..], 0),
             (1, &[0x12, 0x34], 0x1234),
@@ -191,15 +193,23 @@ mod tests {
             (4, &[2], 2),
             (0xFE, &[0xAA, 0xBB, 0xCC], 0xAA_BBCC),
         ] {
-            let stored = [SOURCE, 0x50, code.into(), fixed, OLD];
+            let stored = [SOURCE, 0x50, code.into(), fixed, 0, OLD];
+            assert_eq!(read_into(&frame(code, body)), (0, stored));
+        }
+        for (code, body, fixed, skipped) in [
+            (0, &[3, 2, 4, 2, 0, 5, 2][..], 0, 2),
+            (1, &[0x12, 0x34, 0xFE, 2], 0x1234, 1),
+        ] {
+            let stored = [SOURCE, 0x50, code.into(), fixed, skipped, OLD];
             assert_eq!(read_into(&frame(code, body)), (0, stored));
         }
     }
 
     #[test]
     fn a_refusal_stores_nothing_and_9_comes_first() {
-        assert_eq!(read_into(&frame(4, &[3])), (8, [OLD; 4]));
-        assert_eq!(read_into(&frame(4, &[3])), (9, [OLD; 3]));
+        assert_eq!(read_into(&frame(4, &[3])), (8, [OLD; 5]));
+        assert_eq!(read_into(&frame(4, &[3])), (9, [OLD; 4]));
+        assert_eq!(read_into(&frame(0, &[3, 2, 4, 1])), (6, [OLD; 5]));
         assert_eq!(read_into(&frame(4, &[1])), (9, [OLD; 0]));
         let mut values = [OLD; 10];
         assert_eq!(ByPaper.log_read(b"7", &mut values), 14);
@@ -211,7 +221,8 @@ mod tests {
         assert_eq!(values, [7, 1, 4, 1, 2, 3, 4, 5, 6, OLD]);
     }
 
-    /// Rows of a kind, the next octet and numbers, and old values behind them.
+    /// Rows of a kind, the next octet, how many are skipped, and numbers; old values
+    /// behind them.
     fn rows<const N: usize>(parts: &[(u64, &[u64])]) -> [u64; N] {
         let mut rows = [OLD; N];
         for (row, (kind, numbers)) in rows.chunks_mut(ROW).zip(parts) {
@@ -229,40 +240,42 @@ mod tests {
         ];
         let remote = [&[2], &local[1..]].concat();
         let information = frame(0, &[&local[..], &[9, 3, 0], &remote].concat());
-        let with_next = |next| [next, 1, 42, 5, 0x1D, 0x05EE, 0x1B21, 0xDEAD_BEEF];
-        let (first, second) = (with_next(34), with_next(53));
+        let with = |next, skipped| [next, skipped, 1, 42, 5, 0x1D, 0x05EE, 0x1B21, 0xDEAD_BEEF];
+        let (first, second) = (with(34, 0), with(53, 1));
         let expected = rows(&[(32, &first), (33, &second)]);
         assert_eq!(rows_into::<30>(&information, 0), (2 * 256, expected));
+        let expected = rows(&[(33, &second)]);
+        assert_eq!(rows_into::<10>(&information, 1), (2 * 256, expected));
 
         let seconds = [4, 18, 0, 1, 0, 2, 0, 3, 0, 4, 0, 0, 0, 5, 0, 0, 0, 6];
         let notification = frame(1, &[&[0, 0], &seconds[..]].concat());
-        let expected = rows(&[(34, &[38, 4, 1, 2, 3, 4, 5, 6])]);
-        assert_eq!(rows_into::<10>(&notification, 0), (256, expected));
+        let expected = rows(&[(34, &[38, 0, 4, 1, 2, 3, 4, 5, 6])]);
+        assert_eq!(rows_into::<11>(&notification, 0), (256, expected));
 
         let request = frame(2, &[7, 1, 2, 0, 5]);
-        let expected = rows(&[(35, &[21, 0x07_0102])]);
-        assert_eq!(rows_into::<9>(&request, 0), (256, expected));
+        let expected = rows(&[(35, &[21, 0, 0x07_0102])]);
+        assert_eq!(rows_into::<10>(&request, 0), (256, expected));
 
         let response = frame(3, &[7, 1, 2, 2, 0xAA, 0xBB, 7, 1, 3, 0xA1]);
-        let value = [24, 0x07_0102, 22, 2];
-        let expected = rows(&[(36, &value), (37, &[28, 0x07_0103, 0xA1])]);
-        assert_eq!(rows_into::<18>(&response, 0), (2 * 256, expected));
+        let value = [24, 0, 0x07_0102, 22, 2];
+        let expected = rows(&[(36, &value), (37, &[28, 0, 0x07_0103, 0xA1])]);
+        assert_eq!(rows_into::<20>(&response, 0), (2 * 256, expected));
     }
 
     #[test]
     fn rows_are_stored_whole_from_the_first_that_is_asked_for() {
         let request = frame(2, &[1, 0, 1, 2, 0, 2, 3, 0, 3]);
-        let [one, two, three] = [[21, 0x01_0001], [24, 0x02_0002], [27, 0x03_0003]];
+        let [one, two, three] = [[21, 0, 0x01_0001], [24, 0, 0x02_0002], [27, 0, 0x03_0003]];
         let count = 3 * 256;
         let expected = rows(&[(35, &one)]);
-        assert_eq!(rows_into::<17>(&request, 0), (count, expected));
+        assert_eq!(rows_into::<19>(&request, 0), (count, expected));
         let expected = rows(&[(35, &two), (35, &three)]);
-        assert_eq!(rows_into::<20>(&request, 1), (count, expected));
+        assert_eq!(rows_into::<22>(&request, 1), (count, expected));
         let expected = rows(&[(35, &three)]);
         assert_eq!(rows_into::<100>(&request, 2), (count, expected));
         assert_eq!(rows_into(&request, 3), (count, [OLD; 100]));
         assert_eq!(rows_into(&request, usize::MAX), (count, [OLD; 100]));
-        assert_eq!(rows_into(&request, 0), (count, [OLD; 8]));
+        assert_eq!(rows_into(&request, 0), (count, [OLD; ROW - 1]));
         assert_eq!(rows_into(&request, 0), (count, [OLD; 0]));
     }
 
@@ -288,12 +301,12 @@ mod tests {
 
     #[test]
     fn there_is_no_row_without_a_list_and_an_accepted_frame() {
-        assert_eq!(rows_into(&frame(4, &[1]), 0), (0, [OLD; 9]));
-        assert_eq!(rows_into(&frame(0xFE, &[1, 2, 3]), 0), (0, [OLD; 9]));
-        assert_eq!(rows_into(&frame(2, &[]), 0), (0, [OLD; 9]));
-        assert_eq!(rows_into(&frame(5, &[]), 0), (5, [OLD; 9]));
-        assert_eq!(rows_into(&frame(0, &[3, 1]), 0), (6, [OLD; 9]));
-        assert_eq!(rows_into(&frame(2, &[7, 1, 2])[..59], 0), (1, [OLD; 9]));
+        assert_eq!(rows_into(&frame(4, &[1]), 0), (0, [OLD; ROW]));
+        assert_eq!(rows_into(&frame(0xFE, &[1, 2, 3]), 0), (0, [OLD; ROW]));
+        assert_eq!(rows_into(&frame(2, &[]), 0), (0, [OLD; ROW]));
+        assert_eq!(rows_into(&frame(5, &[]), 0), (5, [OLD; ROW]));
+        assert_eq!(rows_into(&frame(0, &[3, 1]), 0), (6, [OLD; ROW]));
+        assert_eq!(rows_into(&frame(2, &[7, 1, 2])[..59], 0), (1, [OLD; ROW]));
         let (mut header, mut rows) = ([OLD; HEADER - 1], [OLD; ROW]);
         let short = ByPaper.read_all(&frame(5, &[]), 0, &mut header, &mut rows);
         assert_eq!((short, header, rows), (9, [OLD; HEADER - 1], [OLD; ROW]));

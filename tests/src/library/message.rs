@@ -1,9 +1,9 @@
 //! A whole message, read through a library's functions alone.
 
-use super::{answer_of, kind, length_of, Library, HEADER, ROW};
+use super::{answer_of, kind, length_of, Library, HEADER, ROW, ROW_PART, ROW_SKIPPED};
 use crate::paper::{
     answer, code, parted, Body, Container, Content, Descriptor, Event, Information, Message, Part,
-    MOST_PARTS, NUMBERS,
+    Skipped, MOST_PARTS, NUMBERS,
 };
 use std::borrow::Cow;
 
@@ -28,23 +28,22 @@ pub fn message<'a>(library: &dyn Library, frame: &'a [u8]) -> Result<Message<'a>
     if count > MOST_PARTS {
         return senseless(format!("a frame has {count} parts"));
     }
-    let [source, flags, code, fixed] = header;
+    let [source, flags, code, fixed, total] = header;
+    let list = list(frame, &rows[..ROW * count])?;
+    let body = body(fit(code)?, fixed, frame, &list)?;
     Ok(Message {
         source: octets(source)?,
         flags: fit(flags)?,
-        body: body(
-            fit(code)?,
-            fixed,
-            frame,
-            &list(frame, &rows[..ROW * count])?,
-        )?,
+        skipped: skipped(&body, total, &list)?,
+        body,
     })
 }
 
-/// A part: its kind and the numbers behind the next octet.
+/// A part: its kind, the TLVs skipped before it, and its own numbers.
 struct Given {
     kind: u64,
-    numbers: [u64; ROW - 2],
+    skipped: u64,
+    numbers: [u64; ROW - ROW_PART],
 }
 
 /// The parts of rows. Each ends behind the one before it and in the frame.
@@ -58,6 +57,7 @@ fn list(frame: &[u8], rows: &[u64]) -> Result<Vec<Given>, Unread> {
         at = next;
         parts.push(Given {
             kind: row[0],
+            skipped: row[ROW_SKIPPED],
             numbers: *row.last_chunk().expect("a row has more numbers"),
         });
     }
@@ -89,6 +89,22 @@ fn body<'a>(code: u8, fixed: u64, frame: &'a [u8], list: &[Given]) -> Result<Bod
         },
         other => return senseless(format!("a frame of code {other:02x} is accepted")),
     })
+}
+
+/// What the walk over a body of TLVs skipped; in another body there is none.
+fn skipped(body: &Body, total: u64, list: &[Given]) -> Result<Skipped, Unread> {
+    let before = list.iter().map(|part| fit(part.skipped));
+    let skipped = Skipped {
+        before: before.collect::<Result<_, _>>()?,
+        total: fit(total)?,
+    };
+    match body {
+        Body::Information(_) | Body::Notification { .. } => Ok(skipped),
+        _ if skipped.total > 0 || skipped.before.iter().any(|&before| before > 0) => {
+            senseless(format!("{skipped:?} in a body without TLVs"))
+        }
+        _ => Ok(Skipped::default()),
+    }
 }
 
 fn information(part: &Given) -> Result<Part, Unread> {
@@ -188,6 +204,7 @@ mod tests {
     /// paper's library.
     struct Always {
         code: u8,
+        total: u64,
         row: [u64; ROW],
         count: u64,
     }
@@ -210,7 +227,7 @@ mod tests {
         }
 
         fn read_all(&self, _: &[u8], _: usize, header: &mut [u64], rows: &mut [u64]) -> u64 {
-            header.copy_from_slice(&[0, 0, self.code.into(), 0]);
+            header.copy_from_slice(&[0, 0, self.code.into(), 0, self.total]);
             for row in rows.chunks_exact_mut(ROW) {
                 row.copy_from_slice(&self.row);
             }
@@ -222,10 +239,26 @@ mod tests {
         }
     }
 
+    /// What is read by a library that always answers so.
+    fn always(
+        code: u8,
+        total: u64,
+        row: [u64; ROW],
+        count: u64,
+    ) -> Result<Message<'static>, Unread> {
+        let library = Always {
+            code,
+            total,
+            row,
+            count,
+        };
+        message(&library, &[0; 60])
+    }
+
     #[test]
     fn a_senseless_list_is_no_message() {
-        let beyond = |kind| [kind, 40, 1 << 40, 1 << 40, 1 << 40, 0, 0, 0, 0];
-        let descriptor = |next| [kind::DESCRIPTOR, next, 0x07_0102, 0, 0, 0, 0, 0, 0];
+        let beyond = |kind| [kind, 40, 0, 1 << 40, 1 << 40, 1 << 40, 0, 0, 0, 0];
+        let descriptor = |next| [kind::DESCRIPTOR, next, 0, 0x07_0102, 0, 0, 0, 0, 0, 0];
         let most = MOST_PARTS as u64;
         for (code, row, count) in [
             (code::INFORMATION, beyond(kind::LOCAL), 1),
@@ -243,10 +276,30 @@ mod tests {
             (code::ORGANIZATION, descriptor(40), 1),
             (5, descriptor(40), 1),
         ] {
-            let found = message(&Always { code, row, count }, &[0; 60]);
+            let found = always(code, 0, row, count);
             assert!(matches!(found, Err(Unread::Senseless(_))), "{found:?}");
         }
-        let (code, row, count) = (code::REQUEST, descriptor(40), 1);
-        assert!(message(&Always { code, row, count }, &[0; 60]).is_ok());
+        assert!(always(code::REQUEST, 0, descriptor(40), 1).is_ok());
+    }
+
+    #[test]
+    fn only_a_body_of_tlvs_has_some_that_are_skipped() {
+        let row = |kind, skipped| [kind, 40, skipped, 1, 0, 0, 0, 0, 0, 0];
+        let found = always(code::INFORMATION, 7, row(kind::LOCAL, 3), 1);
+        let (before, total) = (vec![3], 7);
+        assert_eq!(
+            found.map(|message| message.skipped),
+            Ok(Skipped { before, total })
+        );
+        let descriptor = |skipped| row(kind::DESCRIPTOR, skipped);
+        assert!(always(code::REQUEST, 0, descriptor(0), 1).is_ok());
+        for (code, total, skipped, count) in [
+            (code::REQUEST, 1, 0, 1),
+            (code::REQUEST, 0, 1, 1),
+            (code::LOOPBACK, 1, 0, 0),
+        ] {
+            let found = always(code, total, descriptor(skipped), count);
+            assert!(matches!(found, Err(Unread::Senseless(_))), "{found:?}");
+        }
     }
 }

@@ -29,15 +29,15 @@ pub trait Library {
     /// Stores the nine values of a line. Less room for them is 9, before all.
     fn log_read(&self, text: &[u8], values: &mut [u64]) -> u64;
 
-    /// Stores source, flags, code, and the number that stands at a fixed place of
-    /// the body. Less room for them is 9, before all.
+    /// Stores source, flags, code, the number that stands at a fixed place of the
+    /// body, and that of the TLVs skipped in all. Less room for them is 9, before all.
     fn read(&self, frame: &[u8], header: &mut [u64]) -> u64;
 
     /// Stores the header as `read` does, and the parts of the body in order, each
-    /// as a row of `ROW` numbers: its kind, the octet after it, its own numbers,
-    /// zeros. TLVs that are skipped are no parts. The first `first` parts are passed
-    /// over, and of the others as many are stored as whole rows have room. Less room
-    /// for the header is 9, before all.
+    /// as a row of `ROW` numbers: its kind, the octet after it, the number of TLVs
+    /// skipped before it, its own numbers, zeros. TLVs that are skipped are no parts.
+    /// The first `first` parts are passed over, and of the others as many are stored as
+    /// whole rows have room. Less room for the header is 9, before all.
     fn read_all(&self, frame: &[u8], first: usize, header: &mut [u64], rows: &mut [u64]) -> u64;
 
     /// Stores all descriptors of a Variable Request, each as one number, and what is
@@ -46,10 +46,14 @@ pub trait Library {
     fn descriptors(&self, frame: &[u8], descriptors: &mut [u32]) -> u64;
 }
 
-/// Values that `read` stores.
-pub const HEADER: usize = 4;
-/// Values in a row that `read_all` stores.
-pub const ROW: usize = 9;
+/// Values that `read` stores, and the place of the TLVs skipped in all.
+pub const HEADER: usize = 5;
+pub const HEADER_SKIPPED: usize = 4;
+/// Values in a row that `read_all` stores, the place of the TLVs skipped before the
+/// part, and where the part's own numbers begin.
+pub const ROW: usize = 10;
+pub const ROW_SKIPPED: usize = 2;
+pub const ROW_PART: usize = 3;
 
 /// The kinds of parts: the first number of a row.
 pub mod kind {

@@ -30,6 +30,17 @@ pub struct Message<'a> {
     /// All sixteen bits.
     pub flags: u16,
     pub body: Body<'a>,
+    pub skipped: Skipped,
+}
+
+/// TLVs of unknown types, counted from the body's start on. Only the walks of codes
+/// 00 and 01 skip any.
+#[derive(Clone, Debug, Default, PartialEq, Eq)]
+pub struct Skipped {
+    /// Those before each known TLV.
+    pub before: Vec<usize>,
+    /// Those before the walk's end.
+    pub total: usize,
 }
 
 /// The body by its code, its parts in order.
@@ -100,6 +111,27 @@ pub enum Content<'a> {
     Value(Cow<'a, [u8]>),
     /// The whole width octet, 80 to FF.
     Indication(u8),
+}
+
+impl<'a> Message<'a> {
+    /// What a frame says in which no TLV is skipped.
+    pub fn without_skips(source: [u8; 6], flags: u16, body: Body<'a>) -> Self {
+        let known = match &body {
+            Body::Information(parts) => parts.len(),
+            Body::Notification { events, .. } => events.len(),
+            _ => 0,
+        };
+        let skipped = Skipped {
+            before: vec![0; known],
+            total: 0,
+        };
+        Message {
+            source,
+            flags,
+            body,
+            skipped,
+        }
+    }
 }
 
 impl Body<'_> {

@@ -23,7 +23,9 @@ pub(crate) mod tests;
 pub use attribute::{MOST_ASKED, MOST_ATTRIBUTES, NOT_SUPPORTED};
 pub use container::{container_octets, PLAIN_CONTAINER_OCTETS};
 pub use draft::{Draft, DraftBody};
-pub use message::{code, Body, Container, Content, Descriptor, Event, Information, Message, Part};
+pub use message::{
+    code, Body, Container, Content, Descriptor, Event, Information, Message, Part, Skipped,
+};
 pub use numbers::{joined, parted, NUMBERS};
 pub use part::{list, list_start, Listed, Standing, MOST_PARTS};
 pub use plain::is_plain;

@@ -5,11 +5,12 @@ use super::message::{code, Container, Content, Descriptor, Event, Part};
 use super::read::{BODY, LONGEST};
 use super::walk;
 
-/// A part, and the octet of the frame after it.
+/// A part, the octet of the frame after it, and the TLVs skipped before it.
 #[derive(Clone, Copy, Debug, PartialEq, Eq)]
 pub struct Standing {
     pub part: Listed,
     pub next: usize,
+    pub skipped: usize,
 }
 
 /// A part of any list.
@@ -49,16 +50,22 @@ pub fn list_start(code: u8) -> Option<usize> {
 pub fn list(code: u8, frame: &[u8]) -> Vec<Standing> {
     let mut parts = Vec::new();
     let mut at = list_start(code).unwrap_or(frame.len());
-    while let Ok(Some(standing)) = part_at(code, frame, at) {
-        at = standing.next;
-        parts.push(standing);
+    let mut skipped = 0;
+    while let Ok(Some((part, next))) = part_at(code, frame, at) {
+        parts.push(Standing {
+            part,
+            next,
+            skipped,
+        });
+        skipped += usize::from(part == Listed::Skipped);
+        at = next;
     }
     parts
 }
 
-/// What stands at octet `at` of a frame of this code: a part, nothing where the
-/// list ends, or answer 6.
-fn part_at(code: u8, frame: &[u8], at: usize) -> Result<Option<Standing>, u8> {
+/// What stands at octet `at` of a frame of this code: a part and the octet after it,
+/// nothing where the list ends, or answer 6.
+fn part_at(code: u8, frame: &[u8], at: usize) -> Result<Option<(Listed, usize)>, u8> {
     let mut rest = &frame[at..];
     let part = match code {
         code::INFORMATION => walk::next_information(&mut rest)?
@@ -73,7 +80,7 @@ fn part_at(code: u8, frame: &[u8], at: usize) -> Result<Option<Standing>, u8> {
         _ => None,
     };
     let next = frame.len() - rest.len();
-    Ok(part.map(|part| Standing { part, next }))
+    Ok(part.map(|part| (part, next)))
 }
 
 /// The container whose last octet stands before `rest`, the frame's end.

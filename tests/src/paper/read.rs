@@ -1,7 +1,7 @@
 //! Reading a frame: answers 1 to 5 in order, then the body in octet order.
 
 use super::answer;
-use super::message::{code, Body, Descriptor, Message};
+use super::message::{code, Body, Descriptor, Message, Skipped};
 use super::walk;
 use std::borrow::Cow;
 
@@ -23,15 +23,19 @@ pub const BODY: usize = 18;
 pub struct Heading {
     pub code: u8,
     pub flags: u16,
+    /// TLVs skipped in all.
+    pub skipped: usize,
 }
 
 /// Reads a frame: what it says, or its answer.
 pub fn read(frame: &[u8]) -> Result<Message<'_>, u8> {
-    let heading = read_heading(frame)?;
+    let (code, flags) = read_heading(frame)?;
+    let (body, skipped) = read_body(code, &frame[BODY..])?;
     Ok(Message {
         source: [frame[6], frame[7], frame[8], frame[9], frame[10], frame[11]],
-        flags: heading.flags,
-        body: read_body(heading.code, &frame[BODY..])?,
+        flags,
+        body,
+        skipped,
     })
 }
 
@@ -41,6 +45,7 @@ pub fn check(frame: &[u8]) -> Result<Heading, u8> {
     Ok(Heading {
         code: message.body.code(),
         flags: message.flags,
+        skipped: message.skipped.total,
     })
 }
 
@@ -52,8 +57,8 @@ pub fn asked(frame: &[u8]) -> Result<Vec<Descriptor>, u8> {
     }
 }
 
-/// Answers 1 to 5.
-fn read_heading(frame: &[u8]) -> Result<Heading, u8> {
+/// Code and flags, or answers 1 to 5.
+fn read_heading(frame: &[u8]) -> Result<(u8, u16), u8> {
     if !(SHORTEST..=LONGEST).contains(&frame.len()) {
         return Err(answer::LENGTH);
     }
@@ -69,24 +74,41 @@ fn read_heading(frame: &[u8]) -> Result<Heading, u8> {
     let flags = u16::from_be_bytes([frame[15], frame[16]]);
     match frame[17] {
         0x05..=0xFD | 0xFF => Err(answer::CODE),
-        code => Ok(Heading { code, flags }),
+        code => Ok((code, flags)),
     }
 }
 
 /// Answers 6 to 8. The body is at least 42 octets and its code a known one.
-fn read_body(code: u8, body: &[u8]) -> Result<Body<'_>, u8> {
+fn read_body(code: u8, body: &[u8]) -> Result<(Body<'_>, Skipped), u8> {
+    match code {
+        code::INFORMATION => read_information(body),
+        code::NOTIFICATION => read_notification(body),
+        _ => Ok((read_other_body(code, body)?, Skipped::default())),
+    }
+}
+
+fn read_information(body: &[u8]) -> Result<(Body<'_>, Skipped), u8> {
+    let (mut parts, mut skipped) = (Vec::new(), Skipped::default());
+    skipped.total = walk::information(body, |part, before| {
+        parts.push(part);
+        skipped.before.push(before);
+    })?;
+    Ok((Body::Information(parts), skipped))
+}
+
+fn read_notification(body: &[u8]) -> Result<(Body<'_>, Skipped), u8> {
+    let number = u16::from_be_bytes([body[0], body[1]]);
+    let (mut events, mut skipped) = (Vec::new(), Skipped::default());
+    skipped.total = walk::events(&body[2..], |event, before| {
+        events.push(event);
+        skipped.before.push(before);
+    })?;
+    Ok((Body::Notification { number, events }, skipped))
+}
+
+/// A body without TLVs.
+fn read_other_body(code: u8, body: &[u8]) -> Result<Body<'_>, u8> {
     Ok(match code {
-        code::INFORMATION => {
-            let mut parts = Vec::new();
-            walk::information(body, |part| parts.push(part))?;
-            Body::Information(parts)
-        }
-        code::NOTIFICATION => {
-            let number = u16::from_be_bytes([body[0], body[1]]);
-            let mut events = Vec::new();
-            walk::events(&body[2..], |event| events.push(event))?;
-            Body::Notification { number, events }
-        }
         code::REQUEST => {
             let mut descriptors = Vec::new();
             walk::descriptors(body, |descriptor| descriptors.push(descriptor))?;

@@ -69,7 +69,7 @@ fn remote() -> Information {
 fn the_papers_two_lines_give_the_papers_listing() {
     let enable = "0180c2000002020000000001880903005004".to_string() + "01" + &"00".repeat(41);
     let other = "0180c2000002020000000001880903005004".to_string() + "03" + &"00".repeat(41);
-    let expected = "no\tcode\tflags\tanswer\n1\t4\t80\t0\n2\t-\t-\t8\n";
+    let expected = "no\tcode\tflags\tanswer\tskipped\n1\t4\t80\t0\t0\n2\t-\t-\t8\t-\n";
     assert_eq!(
         listing(format!("{enable}\n{other}\n").as_bytes()),
         expected.as_bytes()
@@ -82,15 +82,18 @@ fn the_papers_two_lines_give_the_papers_listing() {
 
 #[test]
 fn empty_input_gives_the_header_only() {
-    assert_eq!(listing(b""), b"no\tcode\tflags\tanswer\n");
+    assert_eq!(listing(b""), b"no\tcode\tflags\tanswer\tskipped\n");
 }
 
 #[test]
 fn an_empty_line_is_a_frame_of_length_0() {
-    assert_eq!(listing(b"\n"), b"no\tcode\tflags\tanswer\n1\t-\t-\t1\n");
+    assert_eq!(
+        listing(b"\n"),
+        b"no\tcode\tflags\tanswer\tskipped\n1\t-\t-\t1\t-\n"
+    );
     assert_eq!(
         listing(b"\n\n"),
-        b"no\tcode\tflags\tanswer\n1\t-\t-\t1\n2\t-\t-\t1\n"
+        b"no\tcode\tflags\tanswer\tskipped\n1\t-\t-\t1\t-\n2\t-\t-\t1\t-\n"
     );
 }
 
@@ -129,12 +132,12 @@ fn text_is_answered_before_length() {
     let long = "0".repeat(100_000);
     assert_eq!(
         listing(long.as_bytes()),
-        b"no\tcode\tflags\tanswer\n1\t-\t-\t1\n"
+        b"no\tcode\tflags\tanswer\tskipped\n1\t-\t-\t1\t-\n"
     );
     let foreign_last = "0".repeat(99_999) + "g";
     assert_eq!(
         listing(foreign_last.as_bytes()),
-        b"no\tcode\tflags\tanswer\n1\t-\t-\t14\n"
+        b"no\tcode\tflags\tanswer\tskipped\n1\t-\t-\t14\t-\n"
     );
 }
 
@@ -144,7 +147,7 @@ fn a_row_shows_all_sixteen_flags() {
     line += &"00".repeat(42);
     assert_eq!(
         listing(line.as_bytes()),
-        b"no\tcode\tflags\tanswer\n1\t254\t65535\t0\n"
+        b"no\tcode\tflags\tanswer\tskipped\n1\t254\t65535\t0\t0\n"
     );
 }
 
@@ -215,11 +218,9 @@ fn any_source_and_any_flags_are_accepted() {
 #[test]
 fn an_information_frame_shows_every_field() {
     let frame = frame(&format!("00 {LOCAL} {REMOTE}"));
-    let expected = Message {
-        source: [0x02, 0x00, 0x00, 0x00, 0x00, 0x01],
-        flags: 0x0050,
-        body: Body::Information(vec![Part::Local(local()), Part::Remote(remote())]),
-    };
+    let source = [0x02, 0x00, 0x00, 0x00, 0x00, 0x01];
+    let body = Body::Information(vec![Part::Local(local()), Part::Remote(remote())]);
+    let expected = Message::without_skips(source, 0x0050, body);
     assert_eq!(read(&frame), Ok(expected));
 }
 
@@ -331,6 +332,66 @@ fn a_tlv_may_end_with_the_frame_and_not_run_past_it() {
     assert_eq!(answer_to(&format!("00 {SKIPPED} 03 02")), 0);
     assert_eq!(answer_to(&format!("00 {SKIPPED} 03 03")), 6);
     assert_eq!(answer_to(&format!("00 {SKIPPED} 03 ff")), 6);
+}
+
+/// What the walk of a frame of this code and body skips: before each known TLV, and in
+/// all.
+fn skipped_in(code_and_body: &str) -> (Vec<usize>, usize) {
+    let frame = frame(code_and_body);
+    let Skipped { before, total } = read(&frame).expect("accepted").skipped;
+    (before, total)
+}
+
+#[test]
+fn skipped_tlvs_are_counted_from_the_bodys_start_on() {
+    let information = |tlvs: &str| skipped_in(&format!("00 {tlvs}"));
+    assert_eq!(information(&format!("{LOCAL} {REMOTE}")), (vec![0, 0], 0));
+    let one_two = format!("03 02 {LOCAL} fe 02 04 03 aa");
+    assert_eq!(information(&one_two), (vec![1], 3));
+    let grown = format!("ff 02 05 02 {REMOTE} fe 05 010203 {LOCAL} 06 02");
+    assert_eq!(information(&grown), (vec![2, 3], 4));
+    let event = "04 12 0000 0258 0001 003c 00000100 ffffffff";
+    let events = format!("fe 02 {event} {event} 05 02 7f 02 {event}");
+    let notification = skipped_in(&format!("01 ffff {events}"));
+    assert_eq!(notification, (vec![1, 1, 3], 3));
+}
+
+#[test]
+fn nothing_behind_type_00_is_counted() {
+    let ended = skipped_in(&format!("00 03 02 {LOCAL} 05 02 00 03 02 {REMOTE} 05 02"));
+    assert_eq!(ended, (vec![1], 2));
+    assert_eq!(skipped_in("00 00 03 02"), (vec![], 0));
+    assert_eq!(skipped_in("01 0302 00 fe 02 fe 02"), (vec![], 0));
+}
+
+#[test]
+fn other_codes_skip_nothing() {
+    for body in ["02 03 0202", "03 03 0202 a1", "04 01 0302", "fe 030203 02"] {
+        assert_eq!(skipped_in(body), (vec![], 0), "{body}");
+    }
+}
+
+#[test]
+fn a_frame_of_tlvs_that_are_skipped_holds_748_or_747() {
+    for (start, tlv, most) in [("00", "fe 02", 748), ("01 0000", "05 02", 747)] {
+        let body = format!("{start} {}", tlv.repeat(most));
+        assert_eq!(frame(&body).len(), LONGEST);
+        assert_eq!(skipped_in(&body), (vec![], most));
+    }
+}
+
+#[test]
+fn a_row_shows_how_many_tlvs_were_skipped() {
+    let line = |code_and_body: &str| crate::compare::hex(&frame(code_and_body));
+    let lines = [
+        line(&format!("00 03 02 {LOCAL} 04 02 fe 02")),
+        line("01 0007 05 02"),
+        line("00 03 02 04 01"),
+        line("00 03 02") + "0",
+    ];
+    let rows = "1\t0\t80\t0\t3\n2\t1\t80\t0\t1\n3\t-\t-\t6\t-\n4\t-\t-\t14\t-\n";
+    let expected = format!("{HEADER}{rows}");
+    assert_eq!(listing(lines.join("\n").as_bytes()), expected.as_bytes());
 }
 
 #[test]

@@ -5,7 +5,7 @@ use super::answer;
 use super::read::{check, Heading};
 
 /// The listing's first line.
-pub const HEADER: &str = "no\tcode\tflags\tanswer\n";
+pub const HEADER: &str = "no\tcode\tflags\tanswer\tskipped\n";
 
 /// All that the lister writes for `input`.
 pub fn listing(input: &[u8]) -> Vec<u8> {
@@ -54,7 +54,14 @@ fn answer_line(line: &[u8]) -> Result<Heading, u8> {
 
 fn row(number: u64, answer: Result<Heading, u8>) -> String {
     match answer {
-        Ok(Heading { code, flags }) => format!("{number}\t{code}\t{flags}\t{}\n", answer::ACCEPTED),
-        Err(refusal) => format!("{number}\t-\t-\t{refusal}\n"),
+        Ok(Heading {
+            code,
+            flags,
+            skipped,
+        }) => format!(
+            "{number}\t{code}\t{flags}\t{}\t{skipped}\n",
+            answer::ACCEPTED
+        ),
+        Err(refusal) => format!("{number}\t-\t-\t{refusal}\t-\n"),
     }
 }

@@ -1,5 +1,6 @@
 //! The walks over a body's parts. Each hands every whole part to `found` in
-//! octet order and gives the answer at which it had to stop.
+//! octet order and gives the answer at which it had to stop. A TLV is handed on with
+//! the number of those skipped before it, and at its end a TLV walk gives the total.
 
 use super::answer;
 use super::message::{Container, Content, Descriptor, Event, Information, Part};
@@ -21,31 +22,35 @@ pub const EVENTS: [(usize, [usize; 6]); 4] = [
 ];
 
 /// The TLV walk of code 00, from octet 18.
-pub fn information(body: &[u8], mut found: impl FnMut(Part)) -> Result<(), u8> {
+pub fn information(body: &[u8], mut found: impl FnMut(Part, usize)) -> Result<usize, u8> {
     let mut rest = body;
     let (mut local, mut remote) = (false, false);
+    let mut skipped = 0;
     while let Some(tlv) = next_information(&mut rest)? {
         let Some(part) = tlv else {
+            skipped += 1;
             continue;
         };
         match part {
             Part::Local(_) => once(&mut local)?,
             Part::Remote(_) => once(&mut remote)?,
         }
-        found(part);
+        found(part, skipped);
     }
-    Ok(())
+    Ok(skipped)
 }
 
 /// The TLV walk of code 01, from octet 20.
-pub fn events(body: &[u8], mut found: impl FnMut(Event)) -> Result<(), u8> {
+pub fn events(body: &[u8], mut found: impl FnMut(Event, usize)) -> Result<usize, u8> {
     let mut rest = body;
+    let mut skipped = 0;
     while let Some(tlv) = next_event(&mut rest)? {
-        if let Some(event) = tlv {
-            found(event);
+        match tlv {
+            Some(event) => found(event, skipped),
+            None => skipped += 1,
         }
     }
-    Ok(())
+    Ok(skipped)
 }
 
 /// The list of code 02.

@@ -7,6 +7,7 @@ mod machine;
 mod pair;
 mod reading;
 mod report;
+mod skipping;
 mod writers;
 
 #[cfg(test)]

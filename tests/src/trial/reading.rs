@@ -5,17 +5,20 @@
 use super::contest::{Called, Contest};
 use super::lent::{Lent, Room};
 use super::report::{Report, Tally};
+use super::skipping::Skipping;
 use super::THIS_PACKAGE;
 use crate::compare::{from_difference, hex};
 use crate::generate::{any_frame, every_frame, Made};
-use crate::library::{answer_of, kind, length_of, message, ByPaper, Library, Unread, HEADER, ROW};
+use crate::library::{
+    answer_of, kind, length_of, message, ByPaper, Library, Unread, HEADER, ROW, ROW_SKIPPED,
+};
 use crate::paper::{answer, asked, code, read};
 use crate::random::Random;
 
 /// Tries `frames` frames, or more where the sets that are gone through to the
 /// last one hold more.
 pub fn reading(library: &dyn Library, seed: u64, frames: usize) -> Report {
-    let mut trial = Trial::new(library, seed);
+    let mut trial = Trial::new(library, seed, frames);
     let every = every_frame(&mut trial.random);
     for made in &every {
         trial.frame(made);
@@ -83,6 +86,9 @@ struct Trial<'a> {
     codes: Tally<u8>,
     answers_of_all: Tally<u8>,
     kinds: Tally<u64>,
+    /// Rows with TLVs skipped before them, by kind, parts passed over or not.
+    behind_skipped: Tally<(u64, bool)>,
+    skipping: Tally<Skipping>,
     rooms: Tally<(First, Option<usize>)>,
     /// Slices for a header, too short for `read`, and all lengths for `read_all`.
     short_headers: Tally<usize>,
@@ -93,7 +99,7 @@ struct Trial<'a> {
 }
 
 impl<'a> Trial<'a> {
-    fn new(library: &'a dyn Library, seed: u64) -> Self {
+    fn new(library: &'a dyn Library, seed: u64, frames: usize) -> Self {
         let pairs = |first| ROOMS.map(|room| (first, room));
         let answers = answer::ACCEPTED..=answer::OUTPUT;
         Trial {
@@ -103,6 +109,8 @@ impl<'a> Trial<'a> {
             codes: Tally::expecting(code::ALL),
             answers_of_all: Tally::expecting(answers),
             kinds: Tally::expecting(kind::ALL),
+            behind_skipped: Tally::expecting(possible_behind_skipped()),
+            skipping: Skipping::tally(frames),
             rooms: Tally::expecting(First::ALL.into_iter().flat_map(pairs)),
             short_headers: Tally::expecting(0..HEADER),
             headers: Tally::expecting(0..=HEADER + 1),
@@ -122,6 +130,9 @@ impl<'a> Trial<'a> {
         self.message(frame);
         if let Ok(message) = read(frame) {
             self.codes.count(message.body.code());
+        }
+        for skipping in Skipping::of(frame) {
+            self.skipping.count(skipping);
         }
     }
 
@@ -194,6 +205,11 @@ impl<'a> Trial<'a> {
                 library.read_all(frame, first, header, rows)
             });
         self.answers_of_all.count(answer_of(called.outcome));
+        let stored = length_of(called.outcome).saturating_sub(first);
+        let rows = called.lent[1].slice().chunks_exact(ROW).take(stored);
+        for row in rows.filter(|row| row[ROW_SKIPPED] > 0) {
+            self.behind_skipped.count((row[0], first > 0));
+        }
         called
     }
 
@@ -236,31 +252,38 @@ impl<'a> Trial<'a> {
 
     fn report(self) -> Report {
         let mut report = Report::of(&self.contest);
-        report.add("calls of oam_read", &self.answers, |answer| {
-            format!("answered {answer}")
-        });
+        let answered = |answer: &u8| format!("answered {answer}");
+        report.add("calls of oam_read", &self.answers, answered);
         report.add("accepted frames", &self.codes, |code| {
             format!("of code {code:02X}")
         });
-        report.add("calls of oam_read_all", &self.answers_of_all, |answer| {
-            format!("answered {answer}")
+        report.add("frames by what is skipped", &self.skipping, |skipping| {
+            format!("{skipping:?}")
         });
-        report.add("rows", &self.kinds, |kind| format!("of kind {kind}"));
-        let title = "ways to ask for rows of frames with three parts or more";
-        report.add_many(title, &self.rooms, |pair| format!("{pair:?}"));
+        report.add("calls of oam_read_all", &self.answers_of_all, answered);
+        self.report_rows(&mut report);
         let title = "lengths too short for a header";
         report.add_many(title, &self.short_headers, usize::to_string);
         let title = "lengths of a header beside rows";
         report.add_many(title, &self.headers, usize::to_string);
         let title = "calls of oam_descriptors";
-        report.add(title, &self.answers_of_descriptors, |answer| {
-            format!("answered {answer}")
-        });
+        report.add(title, &self.answers_of_descriptors, answered);
         let title = "lengths for descriptors of requests that have some";
         report.add(title, &self.descriptor_rooms, |(room, answer)| {
             format!("{room:?}, answered {answer}")
         });
         report
+    }
+
+    fn report_rows(&self, report: &mut Report) {
+        report.add("rows", &self.kinds, |kind| format!("of kind {kind}"));
+        let title = "rows behind TLVs that are skipped";
+        report.add(title, &self.behind_skipped, |(kind, passed)| {
+            let parts = if *passed { "some" } else { "no" };
+            format!("of kind {kind}, {parts} parts passed over")
+        });
+        let title = "ways to ask for rows of frames with three parts or more";
+        report.add_many(title, &self.rooms, |pair| format!("{pair:?}"));
     }
 }
 
@@ -274,4 +297,11 @@ fn possible_rooms() -> Vec<(Room, u8)> {
         (Room::Any, answer::ACCEPTED),
         (Room::Any, answer::OUTPUT),
     ]
+}
+
+/// Only TLVs stand behind others that are skipped.
+fn possible_behind_skipped() -> Vec<(u64, bool)> {
+    let tlvs = [kind::LOCAL, kind::REMOTE, kind::EVENT].into_iter();
+    tlvs.flat_map(|kind| [(kind, false), (kind, true)])
+        .collect()
 }

@@ -13,8 +13,13 @@ pub struct Report {
 
 /// How often each thing was reached that must be.
 pub struct Tally<K> {
-    counts: BTreeMap<K, usize>,
-    /// How often each must be.
+    counts: BTreeMap<K, Count>,
+}
+
+/// How often a thing was reached, and how often it must be.
+#[derive(Clone, Copy, Default)]
+struct Count {
+    reached: usize,
     least: usize,
 }
 
@@ -25,17 +30,23 @@ impl<K: Ord> Tally<K> {
 
     /// Each must be reached so often.
     pub fn expecting_often(keys: impl IntoIterator<Item = K>, least: usize) -> Self {
-        let counts = keys.into_iter().map(|key| (key, 0)).collect();
-        Tally { counts, least }
+        Tally::expecting_each(keys.into_iter().map(|key| (key, least)))
+    }
+
+    /// Each must be reached as often as stands beside it.
+    pub fn expecting_each(keys: impl IntoIterator<Item = (K, usize)>) -> Self {
+        let count = |(key, least)| (key, Count { reached: 0, least });
+        let counts = keys.into_iter().map(count).collect();
+        Tally { counts }
     }
 
     pub fn count(&mut self, key: K) {
-        *self.counts.entry(key).or_default() += 1;
+        self.counts.entry(key).or_default().reached += 1;
     }
 
     /// How often it was reached.
     pub fn of(&self, key: &K) -> usize {
-        self.counts.get(key).copied().unwrap_or(0)
+        self.counts.get(key).map_or(0, |count| count.reached)
     }
 }
 
@@ -60,7 +71,7 @@ impl Report {
     pub fn add<K: Ord>(&mut self, title: &str, tally: &Tally<K>, name: impl Fn(&K) -> String) {
         self.counts.push(String::from(title));
         for (key, count) in &tally.counts {
-            let count = grouped(*count);
+            let count = grouped(count.reached);
             self.counts.push(format!("  {count:>9} {}", name(key)));
         }
         self.add_missed(title, tally, name);
@@ -69,20 +80,22 @@ impl Report {
     /// Shows only how many things there are and how often the rarest came.
     pub fn add_many<K: Ord>(&mut self, title: &str, tally: &Tally<K>, name: impl Fn(&K) -> String) {
         let things = tally.counts.len();
-        let rarest = tally.counts.values().min().copied().unwrap_or(0);
-        let rarest = grouped(rarest);
+        let reached = tally.counts.values().map(|count| count.reached);
+        let rarest = grouped(reached.min().unwrap_or(0));
         self.counts
             .push(format!("{title}: {things}, each {rarest} times or more"));
         self.add_missed(title, tally, name);
     }
 
     fn add_missed<K: Ord>(&mut self, title: &str, tally: &Tally<K>, name: impl Fn(&K) -> String) {
-        let least = tally.least;
-        for (key, &count) in tally.counts.iter().filter(|(_, &count)| count < least) {
+        for (key, &Count { reached, least }) in &tally.counts {
+            if reached >= least {
+                continue;
+            }
             let mut fault = format!("never reached: {title}: {}", name(key));
             if least > 1 {
-                let (least, count) = (grouped(least), grouped(count));
-                fault += &format!(", {least} times; it was {count}");
+                let (least, reached) = (grouped(least), grouped(reached));
+                fault += &format!(", {least} times; it was {reached}");
             }
             self.faults.push(fault);
         }
@@ -120,6 +133,18 @@ mod tests {
         let mut report = Report::of(&Contest::new(&ByPaper));
         report.add("answers", &tally, u8::to_string);
         let fault = "never reached: answers: 1, 1,000 times; it was 999";
+        assert_eq!(report.faults, [fault]);
+    }
+
+    #[test]
+    fn each_has_its_own_least() {
+        let mut tally = Tally::expecting_each([(1, 1), (2, 3)]);
+        for key in [1, 2, 2] {
+            tally.count(key);
+        }
+        let mut report = Report::of(&Contest::new(&ByPaper));
+        report.add("answers", &tally, u8::to_string);
+        let fault = "never reached: answers: 2, 3 times; it was 2";
         assert_eq!(report.faults, [fault]);
     }
 }

@@ -1,13 +1,19 @@
 //! The paper's own library passes every trial, and one with a single slip fails
 //! the trial that is there for it.
 
+pub mod miscount;
+
 use super::*;
-use crate::library::{answer_of, kind, length_of, ByHand, ByPaper, Library, HEADER, ROW};
+use crate::library::{
+    answer_of, kind, length_of, ByHand, ByPaper, Library, HEADER, HEADER_SKIPPED, ROW, ROW_SKIPPED,
+};
 use crate::paper::walk::next_container;
 use crate::paper::{
     answer, asked, code, list, log::FIELDS, Draft, DraftBody, Listed, BODY, LONGEST, MOST_PARTS,
     PLAIN_CONTAINER_OCTETS, PLAIN_EVENTS, SHORTEST,
 };
+use miscount::Miscount;
+use std::cell::Cell;
 
 const SEED: u64 = 57;
 
@@ -40,7 +46,7 @@ fn too_few_calls_do_not_pass() {
 
 /// The functions that are found to differ.
 fn differing(trial: Trying, times: usize, slip: Slip) -> Vec<String> {
-    let report = trial(&Slipping(slip), SEED, times);
+    let report = trial(&Slipping::new(slip), SEED, times);
     let name = |fault: &String| fault.split(':').next().map(String::from);
     let names = report.faults.iter().filter_map(name);
     names.filter(|name| name != "never reached").collect()
@@ -117,6 +123,25 @@ fn each_slip_in_reading_is_found() {
                 "{slip:?} in {function}: {found:?}"
             );
         }
+    }
+}
+
+/// The slips of change request (v). Only rows have a number beside a part.
+#[test]
+fn each_slip_in_counting_what_is_skipped_is_found() {
+    let miscounts = Miscount::ALL.map(Slip::Miscounts).into_iter();
+    for slip in miscounts.chain([Slip::CountsLeftFromBefore, Slip::CountsSkippedFromFirst]) {
+        let rows_only = [
+            Slip::CountsSkippedFromFirst,
+            Slip::Miscounts(Miscount::TotalBeside),
+        ];
+        let functions: &[&str] = match rows_only.contains(&slip) {
+            true => &["oam_read_all"],
+            false => &["oam_read", "oam_read_all"],
+        };
+        let found = differing(reading, 0, slip);
+        let of_calls = found.iter().filter(|name| name.starts_with("oam_"));
+        assert_eq!(of_calls.collect::<Vec<_>>(), functions, "{slip:?}");
     }
 }
 
@@ -221,6 +246,11 @@ enum Slip {
     WidthBeforeStart,
     StartInBody,
     RemoteAsLocal,
+    Miscounts(Miscount),
+    /// In a body without TLVs the number stays that of the frame before it.
+    CountsLeftFromBefore,
+    /// Before the first part that is asked for nothing is counted.
+    CountsSkippedFromFirst,
     StoresBeforeRoom,
     StoresBehindDescriptors,
     StoresWhatHasRoom,
@@ -242,12 +272,16 @@ enum Slip {
 }
 
 /// The paper's library with one slip.
-struct Slipping(Slip);
+struct Slipping {
+    slip: Slip,
+    /// TLVs skipped in the last frame.
+    left: Cell<u64>,
+}
 
 impl Library for Slipping {
     fn write(&self, draft: &Draft, out: &mut [u8]) -> u64 {
         if let (Slip::RefusesNoContainer, DraftBody::Response { containers }) =
-            (self.0, &draft.body)
+            (self.slip, &draft.body)
         {
             if containers.is_empty() {
                 return answer::VALUES.into();
@@ -256,7 +290,7 @@ impl Library for Slipping {
         let before = out.to_vec();
         let outcome = ByPaper.write(&self.masked(draft), out);
         let (answer, length) = (answer_of(outcome), (outcome >> 8) as usize);
-        match (self.0, answer) {
+        match (self.slip, answer) {
             (Slip::ClearsOutput, answer::ACCEPTED) => out[length..].fill(0),
             (Slip::CopiesItsBuffer, answer::ACCEPTED) if out.len() == LONGEST => {
                 out[length..].fill(0);
@@ -276,12 +310,12 @@ impl Library for Slipping {
     }
 
     fn log_write(&self, number: u64, position: u64, event: &[u64], out: &mut [u8]) -> u64 {
-        let outcome = match self.0 {
+        let outcome = match self.slip {
             Slip::MasksNumber => ByPaper.log_write(number & 0xFFFF, position, event, out),
             Slip::TakesPosition0 => ByPaper.log_write(number, position.max(1), event, out),
             _ => ByPaper.log_write(number, position, event, out),
         };
-        match (self.0, answer_of(outcome)) {
+        match (self.slip, answer_of(outcome)) {
             (Slip::ClearsLogOutput, answer::ACCEPTED) => out[(outcome >> 8) as usize..].fill(0),
             (Slip::LogOutputBeforeValues, answer::VALUES) if out.is_empty() => {
                 return answer::OUTPUT.into()
@@ -292,7 +326,7 @@ impl Library for Slipping {
     }
 
     fn log_read(&self, text: &[u8], values: &mut [u64]) -> u64 {
-        let text = match self.0 {
+        let text = match self.slip {
             Slip::TakesLeadingZero => text.strip_prefix(b"0").unwrap_or(text).to_vec(),
             Slip::TakesCarriageReturn => {
                 let kept = text.iter().filter(|&&octet| octet != b'\r');
@@ -301,11 +335,11 @@ impl Library for Slipping {
             Slip::TakesNoNewline if !text.ends_with(b"\n") => [text, b"\n"].concat(),
             _ => text.to_vec(),
         };
-        if self.0 == Slip::TakesShortValues && values.len() == FIELDS - 1 {
+        if self.slip == Slip::TakesShortValues && values.len() == FIELDS - 1 {
             return ByPaper.log_read(&text, &mut [0; FIELDS]);
         }
         let outcome = ByPaper.log_read(&text, values);
-        match (self.0, answer_of(outcome)) {
+        match (self.slip, answer_of(outcome)) {
             (Slip::StoresRefusedValues, answer::TEXT) => values[0] = 0,
             (Slip::StoresBehindValues, answer::ACCEPTED) => values[FIELDS..].fill(0),
             _ => {}
@@ -314,16 +348,16 @@ impl Library for Slipping {
     }
 
     fn read(&self, frame: &[u8], header: &mut [u64]) -> u64 {
-        if self.0 == Slip::TakesShortHeader && header.len() == HEADER - 1 {
+        if self.slip == Slip::TakesShortHeader && header.len() == HEADER - 1 {
             return ByPaper.read(frame, &mut [0; HEADER]);
         }
         let outcome = ByPaper.read(frame, header);
-        self.slip_in_header(answer_of(outcome), header);
+        self.slip_in_header(answer_of(outcome), frame, header);
         outcome
     }
 
     fn read_all(&self, frame: &[u8], first: usize, header: &mut [u64], rows: &mut [u64]) -> u64 {
-        match self.0 {
+        match self.slip {
             Slip::TakesShortHeader if header.len() == HEADER - 1 => {
                 return ByPaper.read_all(frame, first, &mut [0; HEADER], rows)
             }
@@ -344,9 +378,9 @@ impl Library for Slipping {
         let before = rows.to_vec();
         let asked = self.first_asked(frame, first);
         let outcome = ByPaper.read_all(frame, asked, header, rows);
-        self.slip_in_header(answer_of(outcome), header);
+        self.slip_in_header(answer_of(outcome), frame, header);
         if answer_of(outcome) != answer::ACCEPTED {
-            if self.0 == Slip::StoresRefusedRows && !rows.is_empty() {
+            if self.slip == Slip::StoresRefusedRows && !rows.is_empty() {
                 rows[0] = 0;
             }
             return outcome;
@@ -354,7 +388,7 @@ impl Library for Slipping {
         let count = length_of(outcome);
         let stored = count.saturating_sub(asked).min(rows.len() / ROW);
         self.slip_in_rows(frame, asked, stored, rows, &before);
-        let told = match self.0 {
+        let told = match self.slip {
             Slip::CountsFromFirst => count.saturating_sub(first),
             Slip::CountsStored => stored,
             Slip::CountsSkipped => list(frame[17], frame).len(),
@@ -368,7 +402,7 @@ impl Library for Slipping {
         let outcome = ByPaper.descriptors(frame, descriptors);
         let (answer, count) = (answer_of(outcome), length_of(outcome));
         let is_request = frame.get(17) == Some(&code::REQUEST);
-        match (self.0, answer) {
+        match (self.slip, answer) {
             (Slip::StoresBeforeRoom, answer::OUTPUT) => {
                 store_what_has_room(frame, descriptors);
             }
@@ -401,18 +435,34 @@ fn store_what_has_room(frame: &[u8], room: &mut [u32]) {
 }
 
 impl Slipping {
-    fn slip_in_header(&self, answer: u8, header: &mut [u64]) {
-        match (self.0, answer) {
+    fn new(slip: Slip) -> Self {
+        Slipping {
+            slip,
+            left: Cell::new(0),
+        }
+    }
+
+    fn slip_in_header(&self, answer: u8, frame: &[u8], header: &mut [u64]) {
+        match (self.slip, answer) {
             (Slip::StoresRefusedHeader, answer::BROKEN) => header[0] = 0,
             (Slip::StoresBehindHeader, answer::ACCEPTED) => header[HEADER..].fill(0),
             (Slip::MasksReadFlags, answer::ACCEPTED) => header[1] &= 0x7F,
+            (Slip::Miscounts(miscount), answer::ACCEPTED) => {
+                header[HEADER_SKIPPED] = miscount.of(frame).total as u64;
+            }
+            (Slip::CountsLeftFromBefore, answer::ACCEPTED) => {
+                if frame[17] > code::NOTIFICATION {
+                    header[HEADER_SKIPPED] = self.left.get();
+                }
+                self.left.set(header[HEADER_SKIPPED]);
+            }
             _ => {}
         }
     }
 
     /// The number of the first part as it is taken.
     fn first_asked(&self, frame: &[u8], first: usize) -> usize {
-        match self.0 {
+        match self.slip {
             Slip::FirstIn8Bits => first & 0xFF,
             Slip::GreatestFirstIsNone if first == usize::MAX => 0,
             Slip::FirstCountsSkipped if frame.len() >= SHORTEST => {
@@ -433,7 +483,7 @@ impl Slipping {
         rows: &mut [u64],
         before: &[u64],
     ) {
-        match self.0 {
+        match self.slip {
             Slip::StoresBehindRows => rows[ROW * stored..].fill(0),
             Slip::StoresCutRow => {
                 let mut longer = [before, &[0; ROW]].concat();
@@ -448,6 +498,9 @@ impl Slipping {
                 let end = rows.len() / ROW * ROW;
                 rows[..end].copy_from_slice(&all[..end]);
             }
+            Slip::Miscounts(_) | Slip::CountsSkippedFromFirst => {
+                self.slip_in_counts(frame, first, &mut rows[..ROW * stored]);
+            }
             _ => {
                 let rows = rows.chunks_exact_mut(ROW).zip(before.chunks(ROW));
                 for (row, before) in rows.take(stored) {
@@ -457,13 +510,31 @@ impl Slipping {
         }
     }
 
+    /// Changes how many are skipped before each part, from a first one on.
+    fn slip_in_counts(&self, frame: &[u8], first: usize, rows: &mut [u64]) {
+        let rows = rows.chunks_exact_mut(ROW);
+        match self.slip {
+            Slip::Miscounts(miscount) => {
+                let numbers = miscount.of(frame).before.into_iter().skip(first);
+                rows.zip(numbers)
+                    .for_each(|(row, number)| row[ROW_SKIPPED] = number as u64);
+            }
+            _ if first > 0 => {
+                let mut passed = [0; ROW];
+                ByPaper.read_all(frame, first - 1, &mut [0; HEADER], &mut passed);
+                rows.for_each(|row| row[ROW_SKIPPED] -= passed[ROW_SKIPPED]);
+            }
+            _ => {}
+        }
+    }
+
     fn slip_in_row(&self, row: &mut [u64], before: &[u64]) {
-        match (self.0, row[0]) {
-            (Slip::KeepsRowEnd, kind::DESCRIPTOR) => row[3..].copy_from_slice(&before[3..]),
+        match (self.slip, row[0]) {
+            (Slip::KeepsRowEnd, kind::DESCRIPTOR) => row[4..].copy_from_slice(&before[4..]),
             (Slip::NextOffByOne, _) => row[1] += 1,
-            (Slip::WidthAsReceived, kind::VALUE) => row[4] &= 0x7F,
-            (Slip::WidthBeforeStart, kind::VALUE) => row.swap(3, 4),
-            (Slip::StartInBody, kind::VALUE) => row[3] -= BODY as u64,
+            (Slip::WidthAsReceived, kind::VALUE) => row[5] &= 0x7F,
+            (Slip::WidthBeforeStart, kind::VALUE) => row.swap(4, 5),
+            (Slip::StartInBody, kind::VALUE) => row[4] -= BODY as u64,
             (Slip::RemoteAsLocal, kind::REMOTE) => row[0] = kind::LOCAL,
             _ => {}
         }
@@ -472,7 +543,7 @@ impl Slipping {
     /// The draft as a writer takes it that loses what is beyond a field.
     fn masked(&self, draft: &Draft) -> Draft {
         let mut draft = draft.clone();
-        match (self.0, &mut draft.body) {
+        match (self.slip, &mut draft.body) {
             (Slip::MasksSource, _) => draft.source &= 0xFFFF_FFFF_FFFF,
             (Slip::MasksFlags, _) => draft.flags &= 0x7F,
             (Slip::MasksState, DraftBody::Information { local, .. }) if local.len() > 2 => {
@@ -504,7 +575,7 @@ impl Slipping {
         let end = ends.last().copied().unwrap_or(0);
         let behind = &containers[end..];
         let is_ended = behind.first() == Some(&0);
-        match self.0 {
+        match self.slip {
             Slip::TakesEndBeforeLast if is_ended && behind.len() > 1 => containers.truncate(end),
             Slip::TakesEndAsLast if behind == [0] => containers.truncate(end),
             Slip::DropsCutContainer if !is_ended => containers.truncate(end),

@@ -2,6 +2,7 @@
 
 use crate::generate::encode;
 use crate::generate::messages::{any_message, information, Style};
+use crate::generate::valid::laid_loosely;
 use crate::paper::machine::{configuration, End, Role, Settings, COMPLETE};
 use crate::paper::{code, parted, Body, Information, Message, Part};
 use crate::random::Random;
@@ -61,7 +62,7 @@ impl Peer {
     pub fn complete(&mut self, random: &mut Random, end: &End) -> Vec<u8> {
         self.local.state = state(random, end.role);
         let body = Body::Information(vec![Part::Local(self.local)]);
-        self.message(0x0010, body)
+        encode::plain(&self.message(0x0010, body))
     }
 
     /// A loopback command.
@@ -91,7 +92,8 @@ impl Peer {
         self.frame(random, body)
     }
 
-    /// A frame with flags that mostly say that discovery is complete.
+    /// A frame with flags that mostly say that discovery is complete. Every other one with
+    /// a walk has what a reader must put up with, TLVs that are skipped among it.
     fn frame(&mut self, random: &mut Random, body: Body<'static>) -> Vec<u8> {
         let field = match random.below(24) {
             0 => 0,
@@ -103,15 +105,16 @@ impl Peer {
             0 => random.number() as u16 & !0x0018,
             _ => 0x0040,
         };
-        self.message(others | field << 3, body)
+        let walked = matches!(body, Body::Information(_) | Body::Notification { .. });
+        let message = self.message(others | field << 3, body);
+        match walked && random.one_in(2) {
+            true => laid_loosely(random, message).frame,
+            false => encode::plain(&message),
+        }
     }
 
-    fn message(&self, flags: u16, body: Body<'static>) -> Vec<u8> {
-        encode::plain(&Message {
-            source: self.source,
-            flags,
-            body,
-        })
+    fn message(&self, flags: u16, body: Body<'static>) -> Message<'static> {
+        Message::without_skips(self.source, flags, body)
     }
 }
 

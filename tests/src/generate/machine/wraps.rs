@@ -75,9 +75,7 @@ pub fn local() -> Body<'static> {
 
 /// A frame of the peer.
 pub fn received(flags: u16, body: Body) -> Call {
-    Call::Receive(encode::plain(&Message {
-        source: [2, 0, 0, 0, 0, 2],
-        flags,
-        body,
-    }))
+    let source = [2, 0, 0, 0, 0, 2];
+    let message = Message::without_skips(source, flags, body);
+    Call::Receive(encode::plain(&message))
 }

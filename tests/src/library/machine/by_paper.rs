@@ -36,7 +36,7 @@ impl Machine for ByPaper {
 #[cfg(test)]
 mod tests {
     use super::*;
-    use crate::library::machine::{ARISEN, SHOWN_NUMBERS, STATE_OCTETS};
+    use crate::library::machine::{ARISEN, RECEIVED, SHOWN_NUMBERS, STATE_OCTETS};
     use crate::paper::machine::{Breach, Settings, END_NUMBERS};
     use crate::paper::tests::{frame, LOCAL};
     use crate::paper::windows::Windows;
@@ -78,7 +78,7 @@ mod tests {
         call(&Call::Report(0), &mut state, 60);
         for text in [&format!("00 {LOCAL}"), "04 01"] {
             let received = Call::Receive(frame(text));
-            let outcome = ByPaper.call(&received, &mut [0; 4], &mut state, &mut [0; 60]);
+            let outcome = ByPaper.call(&received, &mut [0; RECEIVED], &mut state, &mut [0; 60]);
             assert_eq!(outcome & 0xFF_FFFF_FFFF, 60 << 8);
         }
         state
@@ -136,16 +136,16 @@ mod tests {
         assert_eq!(call(&Call::Report(0), &mut state, 0), LOOPING | 9);
         let received = Call::Receive(vec![]);
         let receive = |state: &mut [u8], header: usize, out: usize| {
-            let header = &mut [OLD; 5][..header];
+            let header = &mut [OLD; RECEIVED][..header];
             ByPaper.call(&received, header, state, &mut vec![0; out])
         };
-        assert_eq!(receive(&mut state, 3, 60), LOOPING | 9);
-        assert_eq!(receive(&mut state, 4, 59), LOOPING | 9);
-        assert_eq!(receive(&mut state, 4, 60), LOOPING | 1);
+        assert_eq!(receive(&mut state, 4, 60), LOOPING | 9);
+        assert_eq!(receive(&mut state, 5, 59), LOOPING | 9);
+        assert_eq!(receive(&mut state, 5, 60), LOOPING | 1);
         state[20] = 2; // neither held nor not
         assert_eq!(call(&TICK, &mut state, 60), 10);
         assert_eq!(call(&Call::Report(6), &mut state, 0), 10);
-        assert_eq!(receive(&mut state, 3, 0), 10);
+        assert_eq!(receive(&mut state, 4, 0), 10);
         assert_eq!(ByPaper.show(&state, &mut []), 10);
         assert_eq!(ByPaper.show(&fresh(), &mut [0; SHOWN_NUMBERS - 1]), 9);
     }
@@ -211,15 +211,15 @@ mod tests {
     #[test]
     fn an_accepted_frame_stores_its_header() {
         let mut state = looping();
-        let notification = Call::Receive(frame("01 1234"));
+        let notification = Call::Receive(frame("01 1234 fe 02 05 02"));
         let receive = |state: &mut [u8]| {
-            let mut header = [OLD; 5];
+            let mut header = [OLD; 6];
             let outcome = ByPaper.call(&notification, &mut header, state, &mut [0; 60]);
             (outcome >> 48, header)
         };
-        let stored = [0x0200_0000_0001, 0x50, 1, 0x1234, OLD];
+        let stored = [0x0200_0000_0001, 0x50, 1, 0x1234, 2, OLD];
         assert_eq!(receive(&mut state), (2, stored));
-        let stored = [0x0200_0000_0001, 0x50, 1, 0, OLD];
+        let stored = [0x0200_0000_0001, 0x50, 1, 0, 2, OLD];
         assert_eq!(receive(&mut state), (1, stored));
         assert_eq!(receive(&mut fresh()), (1, stored));
     }

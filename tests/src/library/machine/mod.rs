@@ -13,6 +13,7 @@ pub use call::{Call, Response};
 pub use state::{pack_watch, packed, watch_in, State, SHOWN_NUMBERS};
 pub use turn::Turn;
 
+use crate::library::HEADER;
 use crate::paper::machine::Settings;
 use crate::paper::windows::Windows;
 use crate::paper::NUMBERS;
@@ -20,9 +21,9 @@ use crate::paper::NUMBERS;
 /// Octets of a state: an end's, and those of the watch behind them.
 pub const STATE_OCTETS: usize = END_OCTETS + 43;
 pub const END_OCTETS: usize = 53;
-/// Values that an accepted frame stores: source, flags, code, and the event
-/// number where the events are new.
-pub const RECEIVED: usize = 4;
+/// Values that an accepted frame stores: those of a header that is read, but that no
+/// number stands at the fourth place unless it is one of new events.
+pub const RECEIVED: usize = HEADER;
 /// Values of the most events that arise at a tick: one of each window.
 pub const ARISEN: usize = 2 * NUMBERS;
 

@@ -147,12 +147,12 @@ fn outcome(answer: u8, step: &Step) -> u64 {
 /// What an accepted frame stores.
 fn received(frame: &[u8], shown: Shown) -> [u64; RECEIVED] {
     let message = read(frame).expect("an accepted frame");
-    let [source, flags, code, fixed] = header_of(&message);
+    let [source, flags, code, fixed, skipped] = header_of(&message);
     let number = match shown {
         Shown::Events => fixed,
         Shown::Frame | Shown::Nothing => 0,
     };
-    [source, flags, code, number]
+    [source, flags, code, number, skipped]
 }
 
 /// The octets of an end and of a watch that stands so.

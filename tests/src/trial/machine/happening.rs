@@ -79,7 +79,8 @@ pub struct Seen<'a> {
     pub after: &'a End,
     pub call: &'a Call,
     pub outcome: &'a Outcome,
-    message: Option<Message<'a>>,
+    /// What an accepted frame says.
+    pub message: Option<Message<'a>>,
 }
 
 impl<'a> Seen<'a> {

@@ -9,6 +9,7 @@ mod limiting;
 mod notifying;
 mod played;
 mod responding;
+mod skipping;
 mod unmade;
 mod unwatched;
 mod watching;
@@ -33,6 +34,7 @@ use happening::{Happening, Seen};
 use limiting::Limiting;
 use played::Played;
 use responding::Responding;
+use skipping::Skipping;
 use watching::Watching;
 
 /// The fewest and the most calls of a script.
@@ -63,6 +65,7 @@ struct Trial<'a> {
     stands: Tally<(Discovery, Role)>,
     happenings: Tally<Happening>,
     limiting: Tally<Limiting>,
+    skipping: Tally<Skipping>,
     /// Refusals with a State octet other than 00.
     busy: Tally<(&'static str, u8)>,
     responding: Responding,
@@ -86,6 +89,7 @@ impl<'a> Trial<'a> {
             stands: Tally::expecting(possible_stands()),
             happenings: Tally::expecting(Happening::ALL),
             limiting: Limiting::tally(calls),
+            skipping: Skipping::tally(calls),
             busy: Tally::expecting(possible_busy()),
             responding: Responding::new(calls),
             damaged: Damaged::new(),
@@ -208,6 +212,9 @@ impl<'a> Trial<'a> {
         for happening in seen.happenings() {
             self.happenings.count(happening);
         }
+        if let Some(skipping) = Skipping::of(&seen) {
+            self.skipping.count(skipping);
+        }
         let limits = played.owing.after(&seen);
         self.responding.note(&before, played.last_call(), &outcome);
         (played.owing, played.limiting) = limits;
@@ -229,18 +236,24 @@ impl<'a> Trial<'a> {
         report.add_many("settings out of range", &self.settings_faults, |fault| {
             format!("{fault:?}")
         });
-        report.add("calls", &self.answers, |(name, answer)| {
-            format!("{name}, answered {answer}")
-        });
-        report.add("refusals in a role", &self.busy, |(name, answer)| {
-            format!("{name}, answered {answer}")
-        });
+        let answered = |(name, answer): &(&str, u8)| format!("{name}, answered {answer}");
+        report.add("calls", &self.answers, answered);
+        report.add("refusals in a role", &self.busy, answered);
         report.add("outputs", &self.rooms, |(room, short)| {
             let answered = if *short { "9" } else { "otherwise" };
             format!("of the length {room:?}, answered {answered}")
         });
         let title = "frames of 60 octets in outputs of 1,514";
         report.add(title, &self.short_in_long, |name| name.to_string());
+        self.report_calls(&mut report);
+        self.responding.report(&mut report);
+        self.damaged.report(&mut report);
+        self.watching.report(&mut report);
+        report
+    }
+
+    /// What came of the calls.
+    fn report_calls(&self, report: &mut Report) {
         report.add("calls that left an end in", &self.stands, |stand| {
             format!("{:?}, {:?}", stand.0, stand.1)
         });
@@ -250,10 +263,8 @@ impl<'a> Trial<'a> {
         report.add("what came of the limit", &self.limiting, |limiting| {
             format!("{limiting:?}")
         });
-        self.responding.report(&mut report);
-        self.damaged.report(&mut report);
-        self.watching.report(&mut report);
-        report
+        let title = "frames received with TLVs that are skipped";
+        report.add(title, &self.skipping, |skipping| format!("{skipping:?}"));
     }
 }
 

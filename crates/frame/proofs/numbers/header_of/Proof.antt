@@ -16,9 +16,10 @@ returns c = rw (lt-ltb _ _ (c .if1 .taken))
 
 returns-2 : tie.Need-returns-2
 unfolding headerOf
-returns-2 c = let f = now (c .before .before .before .before .before .before .before .before .before .before .before .before .before .before .args .frame) in
+returns-2 c = let a = c .before .before .before .before .before .before .before .before .before .before .before .before .before .before .args in
+    let f = now (a .frame) in
     let source : c .before .before .before .before .join-two .result * 4294967296 + c .before .before .before .before .before .before .before .join-four .result ≡ num 6 f 6 = omega (arith, c .before .before .before .before .join-two .ensures, c .before .before .before .before .before .before .before .join-four .ensures) in
-    rw (le-ltb _ _ (c .before .before .before .before .before .before .before .before .before .before .before .before .if1 .left)) (λ i. record { source = source i; flags = c .before .join-two2 .ensures i; code = getD f 17 0 })
+    rw (le-ltb _ _ (c .before .before .before .before .before .before .before .before .before .before .before .before .if1 .left)) (λ i. record { source = source i; flags = c .before .join-two2 .ensures i; code = getD f 17 0; skipped = a .skipped })
 
 pub header-of-spec : {M : Type 1} → statement M
 header-of-spec = tie.close (tie.spec returns (λ c. search needs) (λ c. search needs) (λ c. search needs) (λ c. search needs) (λ c κs. search needs) (λ c. search needs) (λ c. search needs) (λ c κs. search needs) (λ c. search needs) (λ c. search needs) (λ c. search needs) (λ c. search needs) (λ c. search needs) (λ c. search needs) (λ c κs. search needs) (λ c. search needs) returns-2)

@@ -26,13 +26,13 @@ told : (c : tie.After-measured-events) → ltb 0 (c .measured-events .result) �
 told c = measured-plain (c .before .before .before .args .number) (eventsOf (now (c .before .before .before .args .events))) (c .measured-events .result) (c .measured-events .ensures) (omega (arith, c .before .before .before .fits))
 
 plainly : (c : tie.Else1) → plain (messageOf (c .before .before .before .before .before .args .source) (c .before .before .before .before .before .args .flags) (notification (c .before .before .before .before .before .args .number) (eventsOf (now (c .before .before .before .before .before .args .events))))) ≡ true
-plainly c = plain-told _ (told (c .before .before)) (c .before .is-plain .ensures) (not-false _ (c .if1 .left))
+plainly c = plain-told _ _ _ (told (c .before .before)) (c .before .is-plain .ensures) (not-false _ (c .if1 .left))
 
 measured : (c : tie.Else1) → Measured (c .before .before .before .before .before .args .number) (eventsOf (now (c .before .before .before .before .before .args .events))) (c .before .before .measured-events .result) (c .before .before .measured-events .ensures)
 measured c = measured-is (c .before .before .before .before .before .args .number) (eventsOf (now (c .before .before .before .before .before .args .events))) (c .before .before .measured-events .result) (c .before .before .measured-events .ensures) (plain-body _ (plainly c))
 
 returns : tie.Need-returns
-returns c = refused-10 _ _ (plain-told _ (told (c .before .before)) (c .before .is-plain .ensures) (not-true _ (c .if1 .taken)))
+returns c = refused-10 _ _ (plain-told _ _ _ (told (c .before .before)) (c .before .is-plain .ensures) (not-true _ (c .if1 .taken)))
 
 returns-2 : tie.Need-returns-2
 returns-2 c = refused-9 _ _ (plainly (c .before .before)) (omega (arith, c .if2 .taken, c .before .at-least-shortest .ensures, measured (c .before .before) .long))

@@ -12,13 +12,13 @@ use Rattle.frame_writer.proofs.local_remote.write_information.Statement
 use Rattle.frame_writer.proofs.local_remote.write_information.Tie as tie
 
 returns : tie.Need-returns
-returns c = refused-10 _ _ (plain-told _ (c .before .before .plain-found .ensures) (c .before .is-plain .ensures) (not-true _ (c .if1 .taken)))
+returns c = refused-10 _ _ (plain-told _ _ _ (c .before .before .plain-found .ensures) (c .before .is-plain .ensures) (not-true _ (c .if1 .taken)))
 
 returns-2 : tie.Need-returns-2
 returns-2 c =
     let f = c .before .before .before .before .before .args .found in
     let e = held-end (f .local) (f .remote) in
-    refused-9 _ _ (plain-told _ (c .before .before .before .plain-found .ensures) (c .before .before .is-plain .ensures) (not-false _ (c .before .if1 .left))) (omega (arith, c .if2 .taken))
+    refused-9 _ _ (plain-told _ _ _ (c .before .before .before .plain-found .ensures) (c .before .before .is-plain .ensures) (not-false _ (c .before .if1 .left))) (omega (arith, c .if2 .taken))
 
 returns-3 : tie.Need-returns-3
 returns-3 c =
@@ -26,7 +26,7 @@ returns-3 c =
     let one = c .before .before .before .before .before .before .before .before .before .before .before .before .before .before .before .before .before .after-held .ensures in
     let two = c .before .before .before .before .before .before .before .before .before .before .before .before .before .before .before .before .after-held2 .ensures in
     let d1 = c .before .before .before .before .before .before .before .before .before .before .before .before .before .before .put-header .last .0 in
-    put-all _ _ (plain-told _ (c .before .before .before .before .before .before .before .before .before .before .before .before .before .before .before .before .before .before .before .before .before .plain-found .ensures) (c .before .before .before .before .before .before .before .before .before .before .before .before .before .before .before .before .before .before .before .before .is-plain .ensures) (not-false _ (c .before .before .before .before .before .before .before .before .before .before .before .before .before .before .before .before .before .before .before .if1 .left)))
+    put-all _ _ (plain-told _ _ _ (c .before .before .before .before .before .before .before .before .before .before .before .before .before .before .before .before .before .before .before .before .before .plain-found .ensures) (c .before .before .before .before .before .before .before .before .before .before .before .before .before .before .before .before .before .before .before .before .is-plain .ensures) (not-false _ (c .before .before .before .before .before .before .before .before .before .before .before .before .before .before .before .before .before .before .before .if1 .left)))
     (omega (arith, one .0, two .0, held-end (f .local) (f .remote))) (omega (arith, one .1, two .1, c .before .before .before .before .before .before .before .before .before .before .before .before .before .before .before .before .before .before .if2 .left)) (c .before .before .before .before .before .before .before .before .before .before .before .before .before .before .put-header .ensures)
     (c .before .before .before .before .before .before .put-held2 .ensures
     ∙ ap (λ (d : List ℕ). sets d (c .before .before .before .before .before .before .before .before .before .before .before .before .before .before .before .before .before .after-held .result) (heldOctets 2 (f .remote))) (c .before .before .before .before .before .before .before .before .before .before .put-held .ensures)

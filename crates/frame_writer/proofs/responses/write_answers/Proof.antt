@@ -30,7 +30,7 @@ holds c =
 returns : tie.Need-returns
 returns c =
     let told = c .before .before .formed-answers .ensures in
-    formed-10 _ _ (λ t. told ∙ t ∙ sym (answers-plain _ _ _ _ t)) (c .before .is-plain .ensures) (not-true _ (c .if1 .taken))
+    formed-10 _ _ _ _ (λ t. told ∙ t ∙ sym (answers-plain _ _ _ _ t)) (c .before .is-plain .ensures) (not-true _ (c .if1 .taken))
 
 returns-2 : tie.Need-returns-2
 returns-2 c =
@@ -38,7 +38,7 @@ returns-2 c =
     let told = c .before .before .before .before .before .formed-answers .ensures in
     let n = c .before .needed-within .result in
     let short = leb-false _ (length (now (a .out))) (sym (needed-lent (length (now (a .out))) (c .before .before .room-within .result) (now (a .attributes)) (now (a .descriptors))) ∙ ap (λ (k : ℕ). leb k (length (now (a .out)))) (sym (c .before .needed-within .ensures)) ∙ lt-leb n (length (now (a .out))) (c .if2 .taken)) in
-    formed-plain _ _ (λ t. told ∙ t ∙ sym (answers-plain _ _ _ _ t)) (c .before .before .before .before .is-plain .ensures) (λ k. sym told ∙ k) (not-false _ (c .before .before .before .if1 .left))
+    formed-plain _ _ _ _ (λ t. told ∙ t ∙ sym (answers-plain _ _ _ _ t)) (c .before .before .before .before .is-plain .ensures) (λ k. sym told ∙ k) (not-false _ (c .before .before .before .if1 .left))
     (λ t p. refused-9 _ _ p (omega (arith, short, ap (λ (n : ℕ). measuredAnswers n (now (a .attributes)) (now (a .descriptors))) (c .before .before .room-within .ensures), answers-long (a .size) (now (a .attributes)) (now (a .values)) (now (a .descriptors)) t)))
 
 put-answers-requires : tie.Need-put-answers-requires
@@ -52,7 +52,7 @@ returns-3 c =
     let told = c .before .before .before .before .before .before .before .before .before .before .before .before .before .before .before .before .before .formed-answers .ensures in
     let room = c .before .before .before .before .before .before .before .before .before .before .before .before .before .before .room-within .ensures in
     let end = c .before .before .before .before .before .before .put-answers .ensures in
-    formed-plain _ _ (λ t. told ∙ t ∙ sym (answers-plain _ _ _ _ t)) (c .before .before .before .before .before .before .before .before .before .before .before .before .before .before .before .before .is-plain .ensures) (λ k. sym told ∙ k) (not-false _ (c .before .before .before .before .before .before .before .before .before .before .before .before .before .before .before .if1 .left))
+    formed-plain _ _ _ _ (λ t. told ∙ t ∙ sym (answers-plain _ _ _ _ t)) (c .before .before .before .before .before .before .before .before .before .before .before .before .before .before .before .before .is-plain .ensures) (λ k. sym told ∙ k) (not-false _ (c .before .before .before .before .before .before .before .before .before .before .before .before .before .before .before .if1 .left))
     (λ t p.
     put-all _ _ p
     (omega (arith, end .0, ap (λ (n : ℕ). measuredAnswers n (now (a .attributes)) (now (a .descriptors))) room, answers-long (a .size) (now (a .attributes)) (now (a .values)) (now (a .descriptors)) t))

@@ -16,14 +16,14 @@ use Rattle.frame_writer.proofs.responses.write_response.Statement.{stat
 use Rattle.frame_writer.proofs.responses.write_response.Tie as tie
 
 returns : tie.Need-returns
-returns c = formed-10 _ _ (λ t. c .before .before .formed-containers .ensures ∙ rw t) (c .before .is-plain .ensures) (not-true _ (c .if1 .taken))
+returns c = formed-10 _ _ _ _ (λ t. c .before .before .formed-containers .ensures ∙ rw t) (c .before .is-plain .ensures) (not-true _ (c .if1 .taken))
 
 returns-2 : tie.Need-returns-2
 returns-2 c =
     let b = c .before .before in
     let s = now (b .before .before .before .before .before .args .containers) in
     let told = b .before .before .formed-containers .ensures in
-    formed-plain _ _ (λ t. told ∙ rw t) (b .before .is-plain .ensures) (λ k. and-l _ _ (sym told ∙ k)) (not-false _ (b .if1 .left))
+    formed-plain _ _ _ _ (λ t. told ∙ rw t) (b .before .is-plain .ensures) (λ k. and-l _ _ (sym told ∙ k)) (not-false _ (b .if1 .left))
     (λ t p. refused-9 _ _ p (omega (arith, c .if2 .taken, c .before .at-least-shortest .ensures, ap length (containers-are s (λ i. b .before .before .before .before .shared-slice-known .given i .fits) t), length-containers (containersOf s))))
 
 returns-3 : tie.Need-returns-3
@@ -32,7 +32,7 @@ returns-3 c =
     let s = now (b .before .before .before .before .before .args .containers) in
     let told = b .before .before .formed-containers .ensures in
     let o : Octets s = λ i. b .before .before .before .before .shared-slice-known .given i .fits in
-    formed-plain _ _ (λ t. told ∙ rw t) (b .before .is-plain .ensures) (λ k. and-l _ _ (sym told ∙ k)) (not-false _ (b .if1 .left))
+    formed-plain _ _ _ _ (λ t. told ∙ rw t) (b .before .is-plain .ensures) (λ k. and-l _ _ (sym told ∙ k)) (not-false _ (b .if1 .left))
     (λ t p.
     put-all _ _ p (omega (arith, ap length (containers-are s o t), length-containers (containersOf s)))
     (omega (arith, c .before .before .before .before .before .before .before .before .before .before .before .before .if2 .left, c .before .before .before .before .before .before .before .before .before .before .before .before .before .at-least-shortest .ensures))

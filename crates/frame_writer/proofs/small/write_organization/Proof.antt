@@ -20,11 +20,11 @@ use Rattle.frame_writer.proofs.small.write_organization.Statement.{stat
 use Rattle.frame_writer.proofs.small.write_organization.Tie as tie
 
 returns : tie.Need-returns
-returns c = refused-10 _ _ (plain-told _ (c .before .before .plain-organization .ensures) (c .before .is-plain .ensures) (not-true _ (c .if1 .taken)))
+returns c = refused-10 _ _ (plain-told _ _ _ (c .before .before .plain-organization .ensures) (c .before .is-plain .ensures) (not-true _ (c .if1 .taken)))
 
 -- where the message is plain
 plainly : (c : tie.Else1) → plain (messageOf (c .before .before .before .before .before .args .source) (c .before .before .before .before .before .args .flags) (organization (c .before .before .before .before .before .args .oui) (now (c .before .before .before .before .before .args .octets)))) ≡ true
-plainly c = plain-told _ (c .before .before .plain-organization .ensures) (c .before .is-plain .ensures) (not-false _ (c .if1 .left))
+plainly c = plain-told _ _ _ (c .before .before .plain-organization .ensures) (c .before .is-plain .ensures) (not-false _ (c .if1 .left))
 
 long : (c : tie.Else1) → 39 ≤ length (now (c .before .before .before .before .before .args .octets))
 long c = organization-long (c .before .before .before .before .before .args .oui) (length (now (c .before .before .before .before .before .args .octets))) (plain-body _ (plainly c))

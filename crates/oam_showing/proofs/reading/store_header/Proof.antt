@@ -7,7 +7,10 @@ use lib.ListN.{length-set}
 pub store-header-spec : {M : Type 1} → statement M
 store-header-spec = tie.close (tie.spec
     (λ c. search needs) (λ c. search needs)
-    (λ c. rw length-set (omega arith))
+    (λ c. simp length-set (omega arith))
     (λ c. search needs)
-    (λ c. rw (length-set, length-set) (omega arith))
-    (λ c. search needs) (λ c. search needs) (λ c. search needs))
+    (λ c. simp length-set (omega arith))
+    (λ c. simp length-set (omega arith))
+    (λ c. search needs)
+    (λ c. simp length-set (omega arith))
+    (λ c. search needs) (λ c. search needs))

@@ -15,7 +15,7 @@ wide : (c : tie.After-descriptor) →
     (v .1 .0 ≤ v .1 .1 .0) × (length (take (v .1 .0) (drop (v .1 .1 .0 - v .1 .0) (now (c .before .before .before .before .before .args .frame)))) ≡ v .1 .0)
 wide c =
     let v = c .descriptor .given .0 in
-    value-width (now (c .before .before .before .before .before .args .frame)) (c .before .before .before .before .before .args .at) (v .0) (v .1 .0) (v .1 .1 .0) (sym (c .before .before .container-step .ensures) ∙ c .descriptor .given .1)
+    value-width (now (c .before .before .before .before .before .args .frame)) (c .before .before .before .before .before .args .cursor .at) (v .0) (v .1 .0) (v .1 .1 .0) (sym (c .before .before .container-step .ensures) ∙ c .descriptor .given .1)
 
 value-row-requires : tie.Need-value-row-requires
 value-row-requires c κs = wide (c .before .before) .0
@@ -30,7 +30,7 @@ returns-3 : tie.Need-returns-3
 returns-3 c =
     let v = c .before .before .before .before .before .before .descriptor .given .0 in
     rw (sym (c .before .before .before .before .before .before .before .before .container-step .ensures) ∙ c .before .before .before .before .before .before .descriptor .given .1)
-    (part-stored (c .before .before .store-row .ensures) (c .before .before .before .value-row .ensures ∙ ap (λ (k : ℕ). row 36 (v .1 .1 .0) (v .0 ∷ (v .1 .1 .0 - k) ∷ k ∷ [])) (sym (wide (c .before .before .before .before .before .before) .1))))
+    (part-stored (c .before .before .store-row .ensures) (c .before .before .before .value-row .ensures ∙ ap (λ (k : ℕ). row 36 (v .1 .1 .0) (c .before .before .before .before .before .before .before .before .before .before .before .args .cursor .skipped) (v .0 ∷ (v .1 .1 .0 - k) ∷ k ∷ [])) (sym (wide (c .before .before .before .before .before .before) .1))))
 
 returns-4 : tie.Need-returns-4
 returns-4 c = rw (sym (c .before .before .before .before .before .before .before .before .container-step .ensures) ∙ c .before .before .before .before .before .before .descriptor2 .given .1) (part-stored (c .before .before .store-row2 .ensures) (c .before .before .before .indication-row .ensures))

@@ -10,7 +10,7 @@ returns c = entry-refused (now (c .before .before .before .before .before .args 
 
 returns-2 : tie.Need-returns-2
 returns-2 c =
-    rw (c .header-of .ensures) (entry-accepted (now (c .before .before .before .before .before .args .frame)) _ (sym (c .before .before .before .judgement-of .ensures) ∙ c .before .enum-told .given .1))
+    rw (c .before .header-of .ensures) (entry-accepted (now (c .before .before .before .before .before .before .before .args .frame)) _ _ (sym (c .before .before .before .before .before .judgement-of .ensures) ∙ c .before .before .before .skipped .given .1))
 
 pub frame-entry-spec : {M : Type 1} → statement M
-frame-entry-spec = tie.close (tie.spec (λ c κs. search needs) (λ c. search needs) (λ c. search needs) (λ c κs. search needs) returns returns-2)
+frame-entry-spec = tie.close (tie.spec (λ c κs. search needs) (λ c. search needs) (λ c. search needs) (λ c κs. search needs) (λ c. search needs) returns returns-2)

@@ -2,6 +2,7 @@
 
 mod limit;
 mod responding;
+mod skips;
 mod windows;
 
 use crate::library::machine::{
@@ -13,6 +14,7 @@ use crate::paper::machine::{
     SMALLEST_SIZE,
 };
 use crate::paper::{answer, check, code, joined, read, Body, Heading, LONGEST, SHORTEST};
+use crate::trial::tests::miscount::Miscount;
 use std::cell::Cell;
 
 #[derive(Clone, Copy, Debug, PartialEq, Eq)]
@@ -73,6 +75,11 @@ pub enum Slip {
     UnknownReportHasNoOctet,
     HeaderBeforeState,
     OutputBeforeReport,
+    Miscounts(Miscount),
+    NoneSkippedWithLinkDown,
+    NoneSkippedOutsideSendAny,
+    NoneSkippedInRepeats,
+    SkippedLeftFromBefore,
     AboveThresholdOnly,
     TotalNotGrown,
     ItselfNotCounted,
@@ -124,7 +131,7 @@ pub enum Slip {
 }
 
 impl Slip {
-    pub const ALL: [Slip; 104] = [
+    pub const ALL: [Slip; 113] = [
         Slip::LosesTheLinkAt49,
         Slip::LosesTheLinkAt51,
         Slip::RefusedFrameRestartsTheCount,
@@ -181,6 +188,15 @@ impl Slip {
         Slip::UnknownReportHasNoOctet,
         Slip::HeaderBeforeState,
         Slip::OutputBeforeReport,
+        Slip::Miscounts(Miscount::KnownToo),
+        Slip::Miscounts(Miscount::BehindEnd),
+        Slip::Miscounts(Miscount::EndToo),
+        Slip::Miscounts(Miscount::Anew),
+        Slip::Miscounts(Miscount::In8Bits),
+        Slip::NoneSkippedWithLinkDown,
+        Slip::NoneSkippedOutsideSendAny,
+        Slip::NoneSkippedInRepeats,
+        Slip::SkippedLeftFromBefore,
         Slip::AboveThresholdOnly,
         Slip::TotalNotGrown,
         Slip::ItselfNotCounted,
@@ -243,6 +259,14 @@ impl Slip {
         limit.take_while(Slip::is_before_responses)
     }
 
+    /// Those in what a receive shows of TLVs that are skipped: the ones before a
+    /// tick's.
+    pub fn in_skips() -> impl Iterator<Item = Slip> {
+        let others = |slip: &Slip| *slip != Slip::Miscounts(Miscount::KnownToo);
+        let skips = Slip::ALL.into_iter().skip_while(others);
+        skips.take_while(|slip| *slip != Slip::AboveThresholdOnly)
+    }
+
     /// Those in what a tick makes of its count.
     pub fn in_windows() -> impl Iterator<Item = Slip> {
         let others = |slip: &Slip| *slip != Slip::AboveThresholdOnly;
@@ -281,6 +305,8 @@ pub struct Slipping {
     late: Cell<bool>,
     /// Frames of the interval that was the oldest before the last tick.
     twelfth: Cell<u8>,
+    /// TLVs skipped in the last frame.
+    left: Cell<u64>,
 }
 
 impl Machine for Slipping {
@@ -291,6 +317,7 @@ impl Machine for Slipping {
         }
         windows::set_up(self.slip, &mut setup.windows);
         self.twelfth.set(0);
+        self.left.set(0);
         ByPaper.fresh(&setup, state)
     }
 
@@ -319,6 +346,7 @@ impl Machine for Slipping {
             self.note_tick(call, &before);
             self.accepted(&before, call, &mut after);
             self.stored(&after, call, length, numbers, out);
+            self.recount(&before, call, &after, Outcome::of(outcome).shown, numbers);
             outcome & !(0xFF << 40) | u64::from(after.role.octet()) << 40
         } else {
             after = before;
@@ -349,6 +377,7 @@ impl Slipping {
             slip,
             late: Cell::new(false),
             twelfth: Cell::new(0),
+            left: Cell::new(0),
         }
     }
 
