@@ -54,16 +54,17 @@ module _ (count first : ℕ) (lent : List ℕ) where
     event-same (EventSkip n) = refl
     event-same (EventHas e n) = refl
 
+    -- what is made by the counted step is what is promised
+    as-made : {next : Next (ℕ → List ℕ)} {by-step : RowStep × List ℕ} {stood : RowStep} {exit : List ℕ} → by-step ≡ made c next
+        → stood ≡ by-step .0 → exit ≡ by-step .1 → StoringRow c count first next lent stood exit
+    as-made same s x = record { stands = s ∙ ap (λ (p : RowStep × List ℕ). p .0) same; stored = x ∙ ap (λ (p : RowStep × List ℕ). p .1) same }
+
     pub information-stored : (f : List ℕ) {step : InformationNext} {stood : RowStep} {exit : List ℕ} → step ≡ informationNext f c
         → stood ≡ informationMade step .0 → exit ≡ informationMade step .1 → StoringRow c count first (informationRowAt f (c .at)) lent stood exit
     unfolding informationNext
-    information-stored f e s x =
-        let same = ap informationMade e ∙ information-same (informationStep f (c .at)) in
-        record { stands = s ∙ ap (λ (p : RowStep × List ℕ). p .0) same; stored = x ∙ ap (λ (p : RowStep × List ℕ). p .1) same }
+    information-stored f e = as-made (ap informationMade e ∙ information-same (informationStep f (c .at)))
 
     pub event-stored : (f : List ℕ) {step : EventNext} {stood : RowStep} {exit : List ℕ} → step ≡ eventNext f c
         → stood ≡ eventMade step .0 → exit ≡ eventMade step .1 → StoringRow c count first (eventRowAt f (c .at)) lent stood exit
     unfolding eventNext
-    event-stored f e s x =
-        let same = ap eventMade e ∙ event-same (eventStep f (c .at)) in
-        record { stands = s ∙ ap (λ (p : RowStep × List ℕ). p .0) same; stored = x ∙ ap (λ (p : RowStep × List ℕ). p .1) same }
+    event-stored f e = as-made (ap eventMade e ∙ event-same (eventStep f (c .at)))

@@ -2,7 +2,7 @@
 -- that stores them.
 use Prim.Native.Nat.{ℕ, zero, suc, _+_, _-_, _*_, _/_, _^_, _<_, _≤_}
 use mathlib.Core.Path.{_≡_, refl, sym, ap, subst, _∙_}
-use mathlib.Core.List.{List, [], _∷_, map, flatten}
+use mathlib.Core.List.{List, [], _∷_, map, flatten, append-nil}
 use native.Mathlib.Nat.{add-zero, zero-add}
 use native.Mathlib.Omega.{arith}
 use borrow.Author.Tests.{ltb-true, ltb-false, lt-ltb}
@@ -21,6 +21,7 @@ use Rattle.oam_showing.specs.declared.rows.RowStep.{RowStep}
 use Rattle.oam_showing.specs.declared.rows.RowStep.the-variants.{End, Over, Part}
 use Rattle.octets.proofs.Bools.{by-cond, whether}
 use Rattle.frame_tlvs.proofs.Walks.{Ahead, Rest, Then, Leads, turn}
+use Rattle.frame_tlvs.proofs.Rows.{six-cells}
 use Rattle.frame_body.specs.declared.ContainerStep.the-variants.{Value}
 use Rattle.frame_body.proofs.Wholes.{Contained, container-within}
 use Rattle.frame_body.proofs.Judging.{information-leads}
@@ -51,14 +52,9 @@ one-by-one n lent to numbers e =
 pub full-row : (kind next skipped : ℕ) (numbers : List ℕ) → length numbers ≡ 7
     → kind ∷ next ∷ skipped ∷ getD numbers 0 0 ∷ getD numbers 1 0 ∷ getD numbers 2 0 ∷ getD numbers 3 0 ∷ getD numbers 4 0 ∷ getD numbers 5 0 ∷ getD numbers 6 0 ∷ [] ≡ row kind next skipped numbers
 full-row kind next skipped [] h = absurd (omega arith)
-full-row kind next skipped (a ∷ []) h = absurd (omega arith)
-full-row kind next skipped (a ∷ b ∷ []) h = absurd (omega arith)
-full-row kind next skipped (a ∷ b ∷ c ∷ []) h = absurd (omega arith)
-full-row kind next skipped (a ∷ b ∷ c ∷ d ∷ []) h = absurd (omega arith)
-full-row kind next skipped (a ∷ b ∷ c ∷ d ∷ e ∷ []) h = absurd (omega arith)
-full-row kind next skipped (a ∷ b ∷ c ∷ d ∷ e ∷ f ∷ []) h = absurd (omega arith)
-full-row kind next skipped (a ∷ b ∷ c ∷ d ∷ e ∷ f ∷ g ∷ []) h = refl
-full-row kind next skipped (a ∷ b ∷ c ∷ d ∷ e ∷ f ∷ g ∷ i ∷ rest) h = absurd (omega arith)
+full-row kind next skipped (a ∷ rest) h =
+    let six : length rest ≡ 6 = omega arith in
+    rw six (ap (λ (xs : List ℕ). kind ∷ next ∷ skipped ∷ a ∷ xs) (sym (six-cells rest six) ∙ sym (append-nil rest)))
 
 -- ---- what a function stores of what stands at a cursor
 

@@ -18,6 +18,7 @@ pub use machine::machine;
 pub use pair::pair;
 pub use reading::reading;
 pub use report::Report;
+pub use skipping::without_end;
 pub use writers::writers;
 
 /// The name under which a claim of this package's own makers fails.

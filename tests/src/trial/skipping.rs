@@ -81,7 +81,7 @@ fn begins_with_unknown(code: u8, frame: &[u8]) -> bool {
 
 /// The frame without its list, and without the zero that ends it: the list is then what
 /// stands behind them.
-fn without_end(code: u8, frame: &[u8]) -> Vec<u8> {
+pub fn without_end(code: u8, frame: &[u8]) -> Vec<u8> {
     let start = list_start(code).unwrap_or(frame.len());
     let end = list(code, frame).last().map_or(start, |last| last.next);
     let behind = frame.get(end + 1..).unwrap_or_default();

@@ -2,6 +2,7 @@
 
 use super::*;
 use oam_tests::paper::{decode, list, Listed, HEADER};
+use oam_tests::trial::without_end;
 
 #[test]
 fn a_tally_that_misses_an_answer_is_a_failure() {
@@ -73,10 +74,7 @@ fn counted(own: &str, line: &[u8], count: fn(&[bool], &[bool]) -> usize) -> Stri
         let tlvs = list(code, frame).into_iter();
         tlvs.map(|tlv| tlv.part != Listed::Skipped).collect()
     };
-    let start = 18 + 2 * usize::from(code);
-    let end = list(code, &frame).last().map_or(start, |last| last.next);
-    let behind = frame.get(end + 1..).unwrap_or_default();
-    let behind = known(&[&frame[..start], behind].concat());
+    let behind = known(&without_end(code, &frame));
     count(&known(&frame), &behind).to_string()
 }
 

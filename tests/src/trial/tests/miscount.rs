@@ -1,6 +1,7 @@
 //! Wrong ways to count the TLVs that the walk of an accepted frame skips.
 
 use crate::paper::{list, list_start, read, Listed, Skipped};
+use crate::trial::without_end;
 
 #[derive(Clone, Copy, Debug, PartialEq, Eq)]
 pub enum Miscount {
@@ -70,11 +71,10 @@ fn is_ended_by_type_00(frame: &[u8]) -> bool {
 
 /// Unknown TLVs behind the type 00 that ends the walk, up to the next one.
 fn unknown_behind_end(frame: &[u8]) -> usize {
-    let Some(end) = end_of_walk(frame).filter(|&end| end < frame.len()) else {
+    if !is_ended_by_type_00(frame) {
         return 0;
-    };
-    let without = [&frame[..end], &frame[end + 1..]].concat();
-    let listed = list(frame[17], &without).into_iter();
-    let behind = listed.filter(|tlv| tlv.next > end && tlv.part == Listed::Skipped);
-    behind.count()
+    }
+    let code = frame[17];
+    let behind = list(code, &without_end(code, frame)).into_iter();
+    behind.filter(|tlv| tlv.part == Listed::Skipped).count()
 }
