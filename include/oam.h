@@ -21,7 +21,7 @@
  * octets stay as they were. A state is good for the build that made it: after an update make a fresh end
  * (oam_fresh) and report the link.
  */
-#define OAM_VERSION 6
+#define OAM_VERSION 7
 
 #include <stddef.h>
 #include <stdint.h>
@@ -62,7 +62,7 @@ enum {
 #define OAM_LEAST_OUT 60       /* the shortest output for a tick, a report and a received frame */
 #define OAM_SHORTEST_FRAME 60
 #define OAM_LONGEST_FRAME 1514 /* an output of this many octets is never too short for a frame */
-#define OAM_LONGEST_LINE 111   /* an output of this many octets is never too short for a log line */
+#define OAM_LONGEST_LINE 112   /* an output of this many octets is never too short for a log line */
 
 /* Where an organization's data stand in a frame, up to the frame's end. */
 #define OAM_ORGANIZATION_AT 21
@@ -81,7 +81,7 @@ enum {
 #define OAM_SHOWN_NUMBERS 43      /* what oam_show stores */
 
 /* The most of a thing in one frame or one call. */
-#define OAM_MOST_EVENTS 4
+#define OAM_MOST_EVENTS 16      /* that one notification is written with */
 #define OAM_MOST_DESCRIPTORS 32 /* that one Variable Request is written with */
 #define OAM_MOST_ASKED 498      /* that one call answers, and that one read frame has */
 #define OAM_MOST_ATTRIBUTES 64
@@ -415,7 +415,7 @@ uint64_t oam_request(const uint32_t *descriptors, size_t descriptors_len, uint8_
                      uint8_t *out, size_t out_len);
 
 /*
- * Tells the peer of events: writes an Event Notification frame with 1 to 4 events of seven numbers each,
+ * Tells the peer of events: writes an Event Notification frame with 1 to 16 events of seven numbers each,
  * under the next event number, which then grows by one (65,535 going to 0). The events are the caller's own, or
  * those that arose with a tick.
  */
@@ -470,7 +470,7 @@ uint64_t oam_show(const uint8_t *state, size_t state_len, uint64_t *numbers, siz
 uint64_t oam_write_information(uint64_t source, uint16_t flags, const uint64_t *local, size_t local_len,
                                const uint64_t *remote, size_t remote_len, uint8_t *out, size_t out_len);
 
-/* Writes an Event Notification frame with its number and 1 to 4 events of seven numbers each. */
+/* Writes an Event Notification frame with its number and 1 to 16 events of seven numbers each. */
 uint64_t oam_write_notification(uint64_t source, uint16_t flags, uint16_t number, const uint64_t *events,
                                 size_t events_len, uint8_t *out, size_t out_len);
 
@@ -521,7 +521,7 @@ uint64_t oam_read_all(const uint8_t *frame, size_t frame_len, size_t first, uint
 uint64_t oam_descriptors(const uint8_t *frame, size_t frame_len, uint32_t *descriptors, size_t descriptors_len);
 
 /*
- * The sent-event log. Writes the line of one event of seven numbers that was sent at a position, 1 to 4,
+ * The sent-event log. Writes the line of one event of seven numbers that was sent at a position, 1 to 16,
  * of the notification with a number, 0 to 65,535. Returns an outcome: accepted, OAM_OUT_OF_RANGE, then
  * OAM_SHORT_OUTPUT. The line ends in a newline, and no zero octet follows it.
  */

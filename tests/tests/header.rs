@@ -1,7 +1,7 @@
 //! The archive's header and the Rattle sources, held together: the octets of a state, the places of the numbers that `oam_show`
-//! stores, the lengths of frames, the most of what a response holds, the bounds of windows; the header and the independent
-//! implementation: the places of a watch's numbers, the numbers of events that arise, those of a frame's header and of a row,
-//! and the bits of an outcome; and the header's version, which every change request raises.
+//! stores, the lengths of frames, the most of what a response and a notification hold, the bounds of windows; the header and the
+//! independent implementation: the length of a log line, the places of a watch's numbers, the numbers of events that arise, those
+//! of a frame's header and of a row, and the bits of an outcome; and the header's version, which every change request raises.
 
 mod sources;
 
@@ -332,6 +332,17 @@ fn a_response_holds_what_the_header_says() {
         assert_eq!(named.get(name), Some(&own), "{name}");
         assert_eq!(number_of(&variables, "", constant), own, "{constant}");
     }
+}
+
+/// In the header, in the source of `frame_writer`, and in the independent implementation.
+#[test]
+fn a_notification_and_a_log_line_are_as_the_header_says() {
+    let header = text(&repository().join("include/oam.h"));
+    let named = named_in_header(&header);
+    let most = paper::PLAIN_EVENTS as u64;
+    assert_eq!(named["OAM_MOST_EVENTS"], most);
+    assert_eq!(number_of(&modules("frame_writer"), "", "MOST_EVENTS"), most);
+    assert_eq!(named["OAM_LONGEST_LINE"], paper::log::LONGEST_LINE as u64);
 }
 
 /// The bounds of the four settings of a watch. The least thresholds are 1 and have no constant in the sources.

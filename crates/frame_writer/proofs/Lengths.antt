@@ -16,6 +16,7 @@ use Rattle.frame.specs.Frame.{Body, information, notification, request, respons
 use Rattle.frame_body.specs.declared.Information.{Information}
 use Rattle.frame_tlvs.specs.declared.Event.{Event}
 use Rattle.frame_tlvs.proofs.Rows.{row-of}
+use Rattle.frame_tlvs.proofs.Marks.{event-sized}
 use Rattle.frame_body.specs.Variables.{Container, value, indication}
 use Rattle.octets.specs.Tests.{every}
 use Rattle.frame_variables.specs.Answers.{containerLength, containersLength}
@@ -58,7 +59,7 @@ pub record Tabled (e : Event) : Type 0 where
   pub fits : fit (row (e .kind)) (eventValues e) ≡ true
   pub six : length (row (e .kind)) ≡ 6
   pub sized : eventLength (e .kind) ≡ 2 + total (row (e .kind))
-  pub short : eventLength (e .kind) ≤ 50
+  pub short : eventLength (e .kind) ≤ 40
   pub long : length (eventOctets e) ≡ eventLength (e .kind)
 
 -- an event in plain form is in the table
@@ -78,7 +79,7 @@ tabled e h =
       fits = search and-r;
       six = r .six;
       sized = sized;
-      short = omega (arith, r .narrow 0, r .narrow 1, r .narrow 2, r .narrow 3, r .narrow 4, r .narrow 5);
+      short = event-sized {at = 0} {len = 1} (omega arith) t (eventLength t) least most refl .2;
       long = omega (arith, length-octs (row t) (eventValues e) (omega arith));
     }
 
@@ -90,8 +91,8 @@ length-events (e ∷ es) h =
     let b : every plainEvent es ≡ true = search and-r in
     omega (arith, length-append (eventOctets e) (joined eventOctets es), tabled e a .long, length-events es b)
 
--- no event is longer than 50 octets
-pub events-short : (es : List Event) → every plainEvent es ≡ true → eventsLength es ≤ 50 * length es
+-- no event is longer than 40 octets
+pub events-short : (es : List Event) → every plainEvent es ≡ true → eventsLength es ≤ 40 * length es
 events-short [] h = omega arith
 events-short (e ∷ es) h =
     let a : plainEvent e ≡ true = search and-l in

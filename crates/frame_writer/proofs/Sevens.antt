@@ -15,7 +15,7 @@ use Rattle.frame_tlvs.specs.declared.Event.{Event}
 use Rattle.frame.specs.Frame.{notification}
 use Rattle.frame_writer.specs.Encode.{eventValues, eventOctets, joined}
 use Rattle.octets.specs.Tests.{between, every}
-use Rattle.frame_writer.specs.Plain.{plainEvent, plainEvents, eventsLength, plainBody}
+use Rattle.frame_writer.specs.Plain.{plainEvent, mostEvents, plainEvents, eventsLength, plainBody}
 use Rattle.frame_writer.specs.Writing.{eventFrom, plainSeven, eventsFrom, eventsOf, eventCount, measuredEvents, measuredSeven}
 use Rattle.octets.proofs.Bools.{never, and-l, and-r}
 use Rattle.octets.proofs.Stores.{sets-append}
@@ -111,12 +111,12 @@ module _ (vs : List ℕ) (n i : ℕ) (h : i < n) (k : n * 7 ≤ length vs) where
 
   -- what is measured from it on: nothing where it is not plain
   pub next-summed : (sum octets : ℕ) → octets ≡ measuredSeven (sevenAt vs i)
-      → (summed sum (onward vs n i) ≡ cond (eqb octets 0) 0 (summed (sum + octets) (onward vs n (i + 1)))) × (octets ≤ 50)
+      → (summed sum (onward vs n i) ≡ cond (eqb octets 0) 0 (summed (sum + octets) (onward vs n (i + 1)))) × (octets ≤ 40)
   unfolding measuredSeven plainSeven
   next-summed sum octets e = by (plainEvent event) refl (e ∙ rw (eq-eqb (length (sevenAt vs i)) 7 all-seven))
     where
       by : (b : Bool) → plainEvent event ≡ b → octets ≡ cond b (eventLength (event .kind)) 0
-          → (summed sum (onward vs n i) ≡ cond (eqb octets 0) 0 (summed (sum + octets) (onward vs n (i + 1)))) × (octets ≤ 50)
+          → (summed sum (onward vs n i) ≡ cond (eqb octets 0) 0 (summed (sum + octets) (onward vs n (i + 1)))) × (octets ≤ 40)
       by true p z =
           let t = tabled event p in
           let a : sum + (eventLength (event .kind) + eventsLength (onward vs n (i + 1))) ≡ sum + octets + eventsLength (onward vs n (i + 1)) = omega arith in
@@ -155,21 +155,21 @@ length-from (suc n) vs = ap suc (length-from n (drop 7 vs))
 
 -- what `event_count` tells: so many events are measured, one after another
 pub record Counted (vs : List ℕ) (n : ℕ) : Type 0 where
-  pub most : n ≤ 4
+  pub most : n ≤ mostEvents
   pub within : n * 7 ≤ length vs
   pub measured : measuredEvents (eventsOf vs) ≡ summed 0 (eventsFrom n vs)
 
 pub counted : (vs : List ℕ) → Counted vs (eventCount (length vs))
 unfolding eventsOf measuredEvents
-counted vs = by (eqb (length vs % 7) 0) (between 1 4 (length vs / 7)) refl refl
+counted vs = by (eqb (length vs % 7) 0) (between 1 mostEvents (length vs / 7)) refl refl
   where
-    by : (e b : Bool) → eqb (length vs % 7) 0 ≡ e → between 1 4 (length vs / 7) ≡ b → Counted vs (cond (e && b) (length vs / 7) 0)
+    by : (e b : Bool) → eqb (length vs % 7) 0 ≡ e → between 1 mostEvents (length vs / 7) ≡ b → Counted vs (cond (e && b) (length vs / 7) 0)
     by false b p q = record { most = omega arith; within = omega arith; measured = rw p }
     by true false p q = record { most = omega arith; within = omega arith; measured = rw (p, length-from (length vs / 7) vs, q) }
     by true true p q =
-        let upto : leb (length vs / 7) 4 ≡ true = search and-r in
+        let upto : leb (length vs / 7) mostEvents ≡ true = search and-r in
         record {
-          most = leb-true (length vs / 7) 4 upto;
+          most = leb-true (length vs / 7) mostEvents upto;
           within = omega arith;
           measured = rw (p, length-from (length vs / 7) vs, q, zero-add);
         }
@@ -205,13 +205,13 @@ module _ (n : ℕ) (es : List Event) (octets : ℕ) (e : octets ≡ measuredEven
   pub record Measured : Type 0 where
     pub plain : plainEvents es ≡ true
     pub long : octets ≡ eventsLength es
-    pub short : octets ≤ 200
+    pub short : octets ≤ 40 * mostEvents
 
   pub measured-is : plainBody (notification n es) ≡ true → Measured
   unfolding measuredEvents
   measured-is h =
       let p : plainEvents es ≡ true = search and-r in
       let all : every plainEvent es ≡ true = search and-r in
-      let few : leb (length es) 4 ≡ true = search (and-l, and-r) in
+      let few : leb (length es) mostEvents ≡ true = search (and-l, and-r) in
       let long : octets ≡ eventsLength es = e ∙ rw p in
-      record { plain = p; long = long; short = omega (arith, leb-true (length es) 4 few, events-short es all) }
+      record { plain = p; long = long; short = omega (arith, leb-true (length es) mostEvents few, events-short es all) }

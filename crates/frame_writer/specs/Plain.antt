@@ -43,13 +43,15 @@ plainParts (local i ∷ remote j ∷ p ∷ ps) = false
 unfoldable pub plainEvent : Event → Bool
 plainEvent e = between 1 4 (e .kind) && fit (row (e .kind)) (eventValues e)
 
--- "1 to 4 events; 1 to 32 descriptors"
+-- "The writer takes up to 16, still within both ends' sizes. The plain form follows."
 abbrev pub mostEvents : ℕ
-mostEvents = 4
+mostEvents = 16
 
+-- "1 to 32 descriptors"
 abbrev pub mostDescriptors : ℕ
 mostDescriptors = 32
 
+-- "1 to 4 events" of the build paper, with the request's 16 for 4
 abbrev pub plainEvents : List Event → Bool
 plainEvents es = between 1 mostEvents (length es) && every plainEvent es
 

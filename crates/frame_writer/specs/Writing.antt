@@ -83,7 +83,7 @@ eventsFrom (suc n) vs = eventFrom vs ∷ eventsFrom n (drop 7 vs)
 unfoldable pub eventsOf : List ℕ → List Event
 eventsOf vs = cond (eqb (length vs % 7) 0) (eventsFrom (length vs / 7) vs) []
 
--- how many events so many numbers are, 0 where they are not 1 to 4 whole ones
+-- how many events so many numbers are, 0 where they are not 1 to 16 whole ones
 abbrev pub eventCount : ℕ → ℕ
 eventCount n = cond (eqb (n % 7) 0 && between 1 mostEvents (n / 7)) (n / 7) 0
 

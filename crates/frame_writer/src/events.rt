@@ -10,6 +10,7 @@ ghost use Rattle.frame.specs.Frame.{notification};
 ghost use Rattle.frame_writer.specs.Encode.{eventOctets, joined};
 ghost use Rattle.frame_writer.specs.Plain.{plainEvents, eventsLength, sized};
 ghost use Rattle.frame_writer.specs.Writing.{Writing, messageOf, eventFrom, plainSeven, eventsOf, eventCount, measuredEvents, measuredSeven};
+use crate::MOST_EVENTS;
 use crate::Written;
 use crate::header::at_least_shortest;
 use crate::header::finish;
@@ -50,18 +51,18 @@ fn measured_seven(event: &[u64]) -> usize
     0
 }
 
-// How many events so many numbers are, 0 where they are not 1 to 4 whole ones.
+// How many events so many numbers are, 0 where they are not 1 to 16 whole ones.
 fn event_count(numbers: usize) -> usize
     ensures { λ r. ⌜ r ≡ eventCount numbers ⌝ }
 {
     let count = numbers / 7;
-    if all_three(numbers % 7 == 0, 1 <= count, count <= 4) {
+    if all_three(numbers % 7 == 0, 1 <= count, count <= MOST_EVENTS) {
         return count;
     }
     0
 }
 
-// The octets of all the events, 0 where the numbers are not 1 to 4 events in plain form.
+// The octets of all the events, 0 where the numbers are not 1 to 16 events in plain form.
 fn measured_events(events: &[u64]) -> usize
     ensures { λ r. ⌜ r ≡ measuredEvents (eventsOf (now (events .entry))) ⌝ }
 {
@@ -118,7 +119,7 @@ fn put_events(out: &mut [u8], events: &[u64])
     }
 }
 
-// Writes an Event Notification frame with its number and 1 to 4 events.
+// Writes an Event Notification frame with its number and 1 to 16 events.
 pub fn write_notification(
     source: u64,
     flags: u16,

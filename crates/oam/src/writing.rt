@@ -35,7 +35,7 @@ pub extern "C" fn oam_write_information(
     written_number(frame_writer::write_information(source, flags, found, out))
 }
 
-// Writes an Event Notification frame with its number and 1 to 4 events, each lent as seven numbers: its type and its six
+// Writes an Event Notification frame with its number and 1 to 16 events, each lent as seven numbers: its type and its six
 // values.
 #[no_mangle]
 pub extern "C" fn oam_write_notification(

@@ -13,7 +13,7 @@ use Rattle.frame_writer.specs.Plain.{every}
 use Rattle.text.proofs.Bounds.{by-bound}
 use Rattle.text_eventlog.specs.Digits.{valueOf, isDecimal, numberOf}
 use Rattle.text_eventlog.specs.declared.digits.Number.the-variants.{Bad, Is}
-use Rattle.text_eventlog.specs.Line.{parted, readValues, readFields}
+use Rattle.text_eventlog.specs.Line.{lastPosition, parted, readValues, readFields}
 use Rattle.text_eventlog.specs.declared.Reading.{Reading}
 use Rattle.text_eventlog.specs.declared.Reading.the-variants.{Refused}
 use Rattle.text_eventlog.proofs.Numbers.{number-is, number-bad, all-digits}
@@ -21,9 +21,9 @@ use Rattle.text_eventlog.proofs.Parted.{first, one-field, next-field, d
 
 -- what nine fields say of which i were read, by their values and the fields left
 unfoldable pub left : ℕ → List ℕ → List (List ℕ) → Reading
-left i values fs = cond (eqb (length fs) (9 - i) && every isDecimal fs) (readValues (take i values ++ map valueOf fs)) (Refused 14)
+left i values fs = cond (eqb (length fs) (9 - i) && every isDecimal fs) (readValues lastPosition (take i values ++ map valueOf fs)) (Refused 14)
 
-pub all-left : (values : List ℕ) (fs : List (List ℕ)) → readFields fs ≡ left 0 values fs
+pub all-left : (values : List ℕ) (fs : List (List ℕ)) → readFields lastPosition fs ≡ left 0 values fs
 unfolding readFields left
 all-left values fs = refl
 
@@ -47,12 +47,12 @@ module _ (i : ℕ) (values : List ℕ) (f : List ℕ) where
       rw (n, eqb·suc-suc (length fs) (9 - (i + 1)), d .0, d .1, add-one i, take-suc-set values i v (omega arith), append-assoc)
 
 -- no field left
-none-left : (values : List ℕ) → length values ≡ 9 → left 9 values [] ≡ readValues values
+none-left : (values : List ℕ) → length values ≡ 9 → left 9 values [] ≡ readValues lastPosition values
 unfolding left
 none-left values l = rw (append-nil (take 9 values), take-all 9 values (omega arith))
 
 -- the last field, which takes all that is left
-pub last-read : (s values : List ℕ) (v : ℕ) → length values ≡ 9 → numberOf s ≡ Is v → left 8 values (parted s) ≡ readValues (set values 8 v)
+pub last-read : (s values : List ℕ) (v : ℕ) → length values ≡ 9 → numberOf s ≡ Is v → left 8 values (parted s) ≡ readValues lastPosition (set values 8 v)
 last-read s values v l is =
     rw (digits-one s (all-digits s (number-is s v is .0)))
     (one-read 8 values s [] v (omega arith) l is ∙ none-left (set values 8 v) (simp length-set l))

@@ -14,12 +14,12 @@ use Rattle.frame_writer.specs.Plain.{between}
 use Rattle.frame_writer.specs.Writing.{plainSeven}
 use Rattle.frame_writer.specs.declared.Written.the-variants.{Refused, Wrote}
 use Rattle.frame_writer.proofs.Sevens.{by-cells, Seven, seven-is}
-use Rattle.text_eventlog.specs.Line.{lastPosition, inRange, fields, lineOf}
+use Rattle.text_eventlog.specs.Line.{lastPosition, inRangeUpTo, inRange, fields, lineOf}
 use Rattle.text_eventlog.specs.Logging.{logs, logged, Logging}
 
 -- an event whose values are in range is seven numbers
 pub in-range-seven : (number position : ℕ) (event : List ℕ) → inRange number position event ≡ true → Seven event
-unfolding inRange
+unfolding inRangeUpTo
 in-range-seven number position event h =
     seven-is event (and-r (between 1 lastPosition position) (plainSeven event) (and-r (ltb number (256 ^ 2)) (between 1 lastPosition position && plainSeven event) h))
 

@@ -4,7 +4,7 @@ use mathlib.Core.List.{List, [], _∷_, _++_, map}
 use mathlib.Core.Bool.{Bool, cond, _&&_}
 use lib.Dec.{ltb, eqb}
 use lib.ListN.{length, getD, take, drop}
-use Rattle.frame_writer.specs.Plain.{between, every}
+use Rattle.frame_writer.specs.Plain.{between, every, mostEvents}
 use Rattle.frame_writer.specs.Writing.{plainSeven}
 use Rattle.text.specs.Marks.{tab, newline}
 use Rattle.text.specs.Decimal.{field}
@@ -13,14 +13,18 @@ use Rattle.text_eventlog.specs.declared.Line.{Line}
 use Rattle.text_eventlog.specs.declared.Reading.{Reading}
 use Rattle.text_eventlog.specs.declared.Reading.the-variants.{Refused, Line as LineIs}
 
--- "position 1 to 4"
+-- "Log positions run 1 to 16.": as many as a notification has events
 abbrev pub lastPosition : ℕ
-lastPosition = 4
+lastPosition = mostEvents
 
 -- The number of a notification has sixteen bits. The event is seven numbers, "type, timestamp, window, threshold, errors,
--- error total, event total", "each value within its width".
-unfoldable pub inRange : ℕ → ℕ → List ℕ → Bool
-inRange number position event = ltb number (256 ^ 2) && (between 1 lastPosition position && plainSeven event)
+-- error total, event total", "each value within its width". Builds differ in the last position, so it is a parameter.
+unfoldable pub inRangeUpTo : (last number position : ℕ) → List ℕ → Bool
+inRangeUpTo last number position event = ltb number (256 ^ 2) && (between 1 last position && plainSeven event)
+
+-- of this build
+abbrev pub inRange : (number position : ℕ) → List ℕ → Bool
+inRange number position event = inRangeUpTo lastPosition number position event
 
 -- ---- written
 
@@ -34,7 +38,7 @@ abbrev pub fields : List ℕ → List ℕ
 fields [] = []
 fields (v ∷ vs) = field v (parting vs) ++ fields vs
 
--- "one line an event, nine decimal fields parted by tabs: number, position 1 to 4, type, ..."
+-- "one line an event, nine decimal fields parted by tabs: number, position ..., type, ..."
 unfoldable pub lineOf : ℕ → ℕ → List ℕ → List ℕ
 lineOf number position event = fields (number ∷ position ∷ event)
 
@@ -70,16 +74,20 @@ abbrev pub eventIn : Line → List ℕ
 eventIn l = l .kind ∷ l .timestamp ∷ l .window ∷ l .threshold ∷ l .errors ∷ l .«error_total» ∷ l .«event_total» ∷ []
 
 -- the same, where each value is in its range
-unfoldable pub readValues : List ℕ → Reading
-readValues vs = cond (inRange (getD vs 0 0) (getD vs 1 0) (drop 2 vs)) (LineIs (lineFrom vs)) (Refused 14)
+unfoldable pub readValues : (last : ℕ) → List ℕ → Reading
+readValues last vs = cond (inRangeUpTo last (getD vs 0 0) (getD vs 1 0) (drop 2 vs)) (LineIs (lineFrom vs)) (Refused 14)
 
 -- nine decimal fields
-unfoldable pub readFields : List (List ℕ) → Reading
-readFields fs = cond (eqb (length fs) 9 && every isDecimal fs) (readValues (map valueOf fs)) (Refused 14)
+unfoldable pub readFields : (last : ℕ) → List (List ℕ) → Reading
+readFields last fs = cond (eqb (length fs) 9 && every isDecimal fs) (readValues last (map valueOf fs)) (Refused 14)
 
 -- "nine decimal fields parted by tabs", "newline last. It reads back; anything else is 14."
-unfoldable pub readLine : List ℕ → Reading
-readLine s =
+unfoldable pub readLineUpTo : (last : ℕ) → List ℕ → Reading
+readLineUpTo last s =
     cond (eqb (getD s (length s - 1) 0) newline)
-    (readFields (parted (take (length s - 1) s)))
+    (readFields last (parted (take (length s - 1) s)))
     (Refused 14)
+
+-- by this build
+abbrev pub readLine : List ℕ → Reading
+readLine s = readLineUpTo lastPosition s

@@ -1,9 +1,10 @@
 // The values of a line, in range or not.
 ghost use mathlib.Core.Path.{_≡_};
 ghost use Rattle.text_eventlog.specs.Line.{inRange};
+use frame_writer::MOST_EVENTS;
 
 // A notification has no event beyond this position.
-const LAST_POSITION: u64 = 4;
+const LAST_POSITION: u64 = MOST_EVENTS as u64;
 
 // Whether a number, a position and an event's seven numbers may stand in a line.
 pub(crate) fn in_range(number: u64, position: u64, event: &[u64]) -> bool

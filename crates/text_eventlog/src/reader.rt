@@ -3,7 +3,7 @@ ghost use mathlib.Core.Path.{_≡_};
 ghost use mathlib.Core.List.{[]};
 ghost use Prim.Native.Nat.{_+_};
 ghost use lib.ListN.{length, getD, drop};
-ghost use Rattle.text_eventlog.specs.Line.{parted, readValues, readFields, readLine};
+ghost use Rattle.text_eventlog.specs.Line.{lastPosition, parted, readValues, readFields, readLine};
 use crate::Line;
 use crate::Reading;
 use crate::digits::Number;
@@ -29,7 +29,7 @@ fn field_end(text: &[u8], at: usize) -> usize
 // What nine values say, if each is in its range.
 fn read_values(v: &[u64]) -> Reading
     requires { ⌜ length (now v) ≡ 9 ⌝ }
-    ensures { λ r. ⌜ r ≡ readValues (now (v .entry)) ⌝ }
+    ensures { λ r. ⌜ r ≡ readValues lastPosition (now (v .entry)) ⌝ }
 {
     if !in_range(v[0], v[1], &v[2..]) {
         return Reading::Refused(14);
@@ -49,7 +49,7 @@ fn read_values(v: &[u64]) -> Reading
 
 // What nine fields say: each but the last ends at a tab, and the last at the end.
 fn read_fields(text: &[u8]) -> Reading
-    ensures { λ r. ⌜ r ≡ readFields (parted (now (text .entry))) ⌝ }
+    ensures { λ r. ⌜ r ≡ readFields lastPosition (parted (now (text .entry))) ⌝ }
 {
     let mut values = [0u64; 9];
     let mut at: usize = 0;

@@ -10,3 +10,4 @@ pub mod Fitting
 pub mod Handing
 pub mod Responding
 pub mod Skipping
+pub mod Notifying

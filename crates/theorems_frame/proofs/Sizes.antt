@@ -14,19 +14,25 @@ use Rattle.octets.specs.Layout.{shortestFrame, longestFrame}
 use Rattle.frame_writer.specs.Encode.{padded, encode}
 use Rattle.octets.specs.Tests.{every}
 use Rattle.frame_variables.specs.Answers.{containersLength}
-use Rattle.frame_writer.specs.Plain.{plainEvent, plainBody, plain}
+use Rattle.frame_tlvs.specs.declared.Event.{Event}
+use Rattle.frame_writer.specs.Plain.{plainEvent, mostEvents, plainBody, plain}
 use Rattle.theorems_frame.specs.PlainFrame.{shortest}
+use Rattle.theorems_frame.specs.Notifying.{longestNotification}
 use Rattle.octets.proofs.Bools.{and-l, and-r}
 use Rattle.frame_writer.proofs.Lengths.{events-short, plain-body, endOf, length-padded, length-encode}
 use Rattle.theorems_frame.proofs.Informing.{plain-parts}
 
+-- a notification in plain form ends by the longest one's end
+pub notification-short : (n : ℕ) (es : List Event) → plainBody (notification n es) ≡ true → endOf (notification n es) ≤ longestNotification
+notification-short n es h =
+    let few : leb (length es) mostEvents ≡ true = search (and-l, and-r) in
+    let all : every plainEvent es ≡ true = search and-r in
+    omega (arith, leb-true (length es) mostEvents few, events-short es all)
+
 -- a body in plain form leaves room for the header
 pub body-short : (b : Body) → plainBody b ≡ true → endOf b ≤ longestFrame
 body-short (information ps) h = omega (arith, plain-parts ps h .few)
-body-short (notification n es) h =
-    let few : leb (length es) 4 ≡ true = search (and-l, and-r) in
-    let all : every plainEvent es ≡ true = search and-r in
-    omega (arith, leb-true (length es) 4 few, events-short es all)
+body-short (notification n es) h = omega (arith, notification-short n es h)
 body-short (request ds) h = let few : leb (length ds) 32 ≡ true = search (and-l, and-r) in omega (arith, leb-true (length ds) 32 few)
 body-short (response cs) h = let few : leb (containersLength cs) 1496 ≡ true = search and-r in omega (arith, leb-true (containersLength cs) 1496 few)
 body-short (loopback n) h = omega arith

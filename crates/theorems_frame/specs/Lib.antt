@@ -4,3 +4,4 @@ pub mod Handing
 pub mod Tables
 pub mod Responding
 pub mod Skipping
+pub mod Notifying

@@ -16,7 +16,7 @@ use Rattle.octets.proofs.Bools.{never}
 use Rattle.text.specs.Marks.{tab, newline}
 use Rattle.text.specs.Decimal.{decimalIn, decimal, field}
 use Rattle.text_eventlog.specs.Digits.{valueOf, isDecimal}
-use Rattle.text_eventlog.specs.Line.{lastPosition, inRange, fields, lineOf, parted, lineFrom, eventIn, readValues, readFields, readLine}
+use Rattle.text_eventlog.specs.Line.{lastPosition, inRangeUpTo, inRange, fields, lineOf, parted, lineFrom, eventIn, readValues, readFields, readLineUpTo, readLine}
 use Rattle.text_eventlog.specs.declared.Line.{Line}
 use Rattle.text_eventlog.specs.declared.Reading.{Reading}
 use Rattle.text_eventlog.specs.declared.Reading.the-variants.{Refused, Line as LineIs}
@@ -37,18 +37,18 @@ fields-tabbed (v ∷ w ∷ vs) h =
 -- ---- a line that is written reads back as what was meant
 
 -- a text that ends in a newline
-ended : (s : List ℕ) → readLine (s ++ (newline ∷ [])) ≡ readFields (parted s)
-unfolding readLine
+ended : (s : List ℕ) → readLine (s ++ (newline ∷ [])) ≡ readFields lastPosition (parted s)
+unfolding readLineUpTo
 ended s =
     let e : length (s ++ (newline ∷ [])) - 1 ≡ length s = omega (arith, length-append s (newline ∷ [])) in
     rw (e, getD-at s newline [] 0 (length s) refl, take-at s (newline ∷ []) (length s) refl)
 
 module _ (number position : ℕ) (event : List ℕ) (h : inRange number position event ≡ true) where
-  said : readValues (number ∷ position ∷ event) ≡ LineIs (lineFrom (number ∷ position ∷ event))
+  said : readValues lastPosition (number ∷ position ∷ event) ≡ LineIs (lineFrom (number ∷ position ∷ event))
   unfolding readValues
   said = rw h
 
-  nine : readFields (map decimal (number ∷ position ∷ event)) ≡ readValues (number ∷ position ∷ event)
+  nine : readFields lastPosition (map decimal (number ∷ position ∷ event)) ≡ readValues lastPosition (number ∷ position ∷ event)
   unfolding readFields
   nine =
       let vs = number ∷ position ∷ event in
@@ -94,13 +94,13 @@ record Said (s : List ℕ) (l : Line) : Type 0 where
   line : fields values ≡ s
 
 said-of : (s : List ℕ) (l : Line) → readLine s ≡ LineIs l → Said s l
-unfolding readLine readFields readValues
+unfolding readLineUpTo readFields readValues
 said-of s l h =
     let t = take (length s - 1) s in
     let fs = parted t in
     let vs = map valueOf fs in
-    let p = passed (eqb (getD s (length s - 1) 0) newline) (readFields fs) l h in
-    let q = passed (eqb (length fs) 9 && every isDecimal fs) (readValues vs) l (p .1) in
+    let p = passed (eqb (getD s (length s - 1) 0) newline) (readFields lastPosition fs) l h in
+    let q = passed (eqb (length fs) 9 && every isDecimal fs) (readValues lastPosition vs) l (p .1) in
     let r = passed (inRange (getD vs 0 0) (getD vs 1 0) (drop 2 vs)) (LineIs (lineFrom vs)) l (q .1) in
     let d = and-eq-true-iff (eqb (length fs) 9) (every isDecimal fs) .0 (q .0) in
     let n : length vs ≡ 9 = length-map fs valueOf ∙ eqb-true (length fs) 9 (d .0) in
@@ -135,5 +135,5 @@ largest =
     1 ∷ 0xffff ∷ 0xffff_ffff_ffff_ffff ∷ 0xffff_ffff_ffff_ffff ∷ 0xffff_ffff_ffff_ffff ∷ 0xffff_ffff_ffff_ffff ∷ 0xffff_ffff ∷ []
 
 pub longest-reached : (inRange 0xffff lastPosition largest ≡ true) × (length (lineOf 0xffff lastPosition largest) ≡ longestLine)
-unfolding inRange plainSeven plainEvent row lineOf decimalIn
+unfolding inRangeUpTo plainSeven plainEvent row lineOf decimalIn
 longest-reached = (refl, refl)

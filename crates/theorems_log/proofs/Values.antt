@@ -19,7 +19,7 @@ use Rattle.frame_writer.proofs.Sevens.{Seven, six-values}
 use Rattle.text.specs.Decimal.{decimal, field}
 use Rattle.text.proofs.Decimals.{field-at-most}
 use Rattle.text_eventlog.specs.Digits.{valueOf, isDecimal}
-use Rattle.text_eventlog.specs.Line.{lastPosition, inRange, parting, fields}
+use Rattle.text_eventlog.specs.Line.{lastPosition, inRangeUpTo, inRange, parting, fields}
 use Rattle.text_eventlog.proofs.Ranges.{in-range-seven}
 use Rattle.theorems_log.specs.Longest.{longestLine}
 use Rattle.theorems_log.proofs.Digits.{digits-back, digits-of}
@@ -53,7 +53,7 @@ pub record Ranged (number position : ℕ) (event : List ℕ) : Type 0 where
   pub seven : Seven event
 
 pub ranged : (number position : ℕ) (event : List ℕ) → inRange number position event ≡ true → Ranged number position event
-unfolding inRange
+unfolding inRangeUpTo
 ranged number position event h =
     let p = and-eq-true-iff (ltb number (256 ^ 2)) (between 1 lastPosition position && plainSeven event) .0 h in
     let q = and-eq-true-iff (between 1 lastPosition position) (plainSeven event) .0 (p .1) in
@@ -129,15 +129,15 @@ module _ (number position : ℕ) (event : List ℕ) (r : Ranged number position 
       )
       (event-below (2 ^ 64 ∷ 2 ^ 64 ∷ 2 ^ 64 ∷ 2 ^ 64 ∷ 2 ^ 64 ∷ 2 ^ 64 ∷ []) refl refl refl refl event (r .seven))
 
-  -- digits by field: 5, 1 and 1; of the six values at most 5, 20, 20, 20, 20 and 10
+  -- digits by field: 5, 2 and 1; of the six values at most 5, 20, 20, 20, 20 and 10
   pub all-short : length (fields (number ∷ position ∷ event)) ≤ longestLine
   unfolding row places
   all-short =
       rw (event-cells event (r .seven .long))
-      (at-most (4 ∷ 0 ∷ 0 ∷ 4 ∷ 19 ∷ 19 ∷ 19 ∷ 19 ∷ 9 ∷ []) (number ∷ position ∷ getD event 0 0 ∷ eventValues (eventFrom event)) (omega arith)
+      (at-most (4 ∷ 1 ∷ 0 ∷ 4 ∷ 19 ∷ 19 ∷ 19 ∷ 19 ∷ 9 ∷ []) (number ∷ position ∷ getD event 0 0 ∷ eventValues (eventFrom event)) (omega arith)
       (rw (
         lt-ltb number (10 ^ 5) (omega (arith, r .short)),
-        lt-ltb position 10 (omega (arith, r .most)),
+        lt-ltb position (10 ^ 2) (omega (arith, r .most)),
         lt-ltb (getD event 0 0) 10 (omega (arith, r .seven .most)),
       )
       (event-below (10 ^ 5 ∷ 10 ^ 20 ∷ 10 ^ 20 ∷ 10 ^ 20 ∷ 10 ^ 20 ∷ 10 ^ 10 ∷ []) refl refl refl refl event (r .seven))))

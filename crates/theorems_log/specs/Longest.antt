@@ -3,4 +3,4 @@ use Prim.Native.Nat.{ℕ}
 
 -- the octets of the longest line
 abbrev pub longestLine : ℕ
-longestLine = 111
+longestLine = 112

@@ -1,7 +1,7 @@
 -- The paper's proved examples, as a single table: "lengths 59 (1), 60, 1,514 (accepted), 1,515 (1) in a Loopback frame;
 -- code 05 (5); TLV 01 length 15 (6); two Local TLVs (7); command 0 (8); width 00 is 128, 7F is 127, 80 none; revision
--- 65,535 then 0; lost-link count 49 stays, 50 enters FAULT; eleventh frame (13)", this last over a stretch of intervals. Every
--- number is computed from the definitions that the contracts cite.
+-- 65,535 then 0; lost-link count 49 stays, 50 enters FAULT; eleventh frame (13)", this last over a stretch of intervals. Beside it
+-- a table of notifications by the two maximum sizes. Every number is computed from the definitions that the contracts cite.
 use Prim.Native.Nat.{ℕ, zero, suc, _+_, _-_, _*_, _^_}
 use mathlib.Core.List.{List, [], _∷_, _++_}
 use mathlib.Core.Bool.{true, false}
@@ -19,7 +19,8 @@ use Rattle.link_end.specs.declared.Last.the-variants.{Never}
 use Rattle.link.specs.declared.Outcome.{Outcome}
 use Rattle.link_end.specs.Ranges.{blank}
 use Rattle.theorems_frame.specs.Tables.{Row, _is_}
-use Rattle.theorems_reach.specs.Machine.{Input, tick, request, start, outcomeOf}
+use Rattle.theorems_frame.specs.Notifying.{longestNotification, eventNumbers}
+use Rattle.theorems_reach.specs.Machine.{Input, tick, request, start, notify, outcomeOf}
 
 -- what an example shows: the answer to a frame, what stands at an octet of a list of containers, or a number
 pub data Seen : Type 0 where
@@ -55,20 +56,25 @@ width octet = container (containerStep (7 ∷ 0 ∷ 2 ∷ octet ∷ replicate 12
 
 -- ---- an end in SEND_ANY that takes one input more
 
-abbrev standing : (lost intervals revision : ℕ) → End
-standing lost intervals revision =
+-- by its own and its peer's maximum size, its lost-link count, the frames of its intervals and its revision
+abbrev sizedEnd : (own peer lost intervals revision : ℕ) → End
+sizedEnd own peer lost intervals revision =
     record {
-      settings = record { configuration = 5; size = 1518; oui = 1; vendor = 2; source = 3; required = 0 };
+      settings = record { configuration = 5; size = own; oui = 1; vendor = 2; source = 3; required = 0 };
       link = record { up = true; lost = lost };
       peer = record {
         kept = 2;
-        held = Of (record { version = 1; revision = 0; state = 0; configuration = 5; oampdu = 1518; oui = 1; vendor = 2 });
+        held = Of (record { version = 1; revision = 0; state = 0; configuration = 5; oampdu = peer; oui = 1; vendor = 2 });
         last = Never;
       };
       role = Idle;
       meter = record { ticks = 0; intervals = intervals };
       own = record { revision = revision; number = 0; gasp = false; critical = false; owed = false };
     }
+
+-- one whose both sizes are the largest
+abbrev standing : (lost intervals revision : ℕ) → End
+standing lost intervals revision = sizedEnd 1518 1518 lost intervals revision
 
 abbrev calling : Input → End → Outcome
 calling i e = outcomeOf (record { input = i; out = replicate 60 0 }) e
@@ -128,4 +134,25 @@ rows =
     ∷ answerLater 10 is number 13
     ∷ writtenLater 11 is number 1
     ∷ answerLater 11 is number 0
+    ∷ []
+
+-- ---- notifications
+
+-- the answer to a request to notify of so many symbol period events, by the two maximum sizes; the output has room for the longest
+abbrev notified : (own peer count : ℕ) → ℕ
+notified own peer count =
+    outcomeOf (record { input = request (notify (eventNumbers 1 count)); out = replicate longestNotification 0 }) (sizedEnd own peer 0 0 0) .answer
+
+abbrev pub notifications : List (Row ℕ)
+notifications =
+    notified 1518 1518 1 is 0
+    ∷ notified 1518 1518 16 is 0
+    ∷ notified 1518 1518 17 is 10
+    -- "request's frame, plus 4, exceeds the smaller of the two maximum OAMPDU sizes": 660 + 4
+    ∷ notified 664 664 16 is 0
+    ∷ notified 663 1518 16 is 12
+    ∷ notified 1518 663 16 is 12
+    -- 10 comes before 12
+    ∷ notified 64 64 16 is 12
+    ∷ notified 64 64 17 is 10
     ∷ []

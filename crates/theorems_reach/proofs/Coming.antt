@@ -79,9 +79,10 @@ pub data Comes (c : Call) (e : End) : Type 0 where
 -- ---- each call
 
 -- "Requests: 10, 11, 15, 12, 13, 9."
--- what is so of each is so of the answer, and 12 is given only where the frame is measured
+-- what is so of each is so of the answer, and 12 is given only where the frame is measured and exceeds a size
 pub answer-is : (P : ℕ → Type 0) (octets : ℕ) (permitted measured : Bool) (lent : ℕ) (e : End)
-    → P 10 → P 11 → P 15 → (measured ≡ true → P 12) → P 13 → P 9 → P 0 → P (answerTo octets permitted measured lent e)
+    → P 10 → P 11 → P 15 → ((not measured || fitsBoth octets (e .settings .size) (peerMaximum (e .peer .held))) ≡ false → P 12)
+    → P 13 → P 9 → P 0 → P (answerTo octets permitted measured lent e)
 unfolding answerTo requestAnswer
 answer-is P octets permitted measured lent e ten eleven fifteen twelve thirteen nine none =
     by-cond P (ltb 0 octets)
@@ -92,7 +93,7 @@ answer-is P octets permitted measured lent e ten eleven fifteen twelve thirteen 
     (λ _.
     by-cond P (not measured || fitsBoth octets (e .settings .size) (peerMaximum (e .peer .held)))
     (λ _. by-cond P (hasRoom (e .meter)) (λ _. by-cond P (leb octets lent) (λ _. none) (λ _. nine)) (λ _. thirteen))
-    (λ f. whether measured twelve (λ n. never (sym (rw n at f)))))
+    twelve)
     (λ _. fifteen))
     (λ _. eleven))
     (λ _. ten)

@@ -24,6 +24,7 @@ pub mod InSendAny
 pub mod Beginning
 pub mod Saying
 pub mod Responding
+pub mod Notifying
 pub mod Heading
 pub mod Owed
 pub mod OwedUntil

@@ -6,8 +6,8 @@ use oam_tests::library::{Archive, Library};
 use oam_tests::random::seed_from_clock;
 use oam_tests::trial::{self, Report};
 
-/// Messages of each kind, each into seven outputs: a million calls of every writer.
-const MESSAGES: u64 = 150_000;
+/// Messages of each kind, each into seven outputs: over a million calls of every writer.
+const MESSAGES: u64 = 200_000;
 /// Frames, or lines.
 const TIMES: u64 = 200_000;
 

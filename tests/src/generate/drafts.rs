@@ -4,7 +4,7 @@
 use super::beyond::{beyond, narrow_fields, no_event_type};
 use super::containers::{branch_0_put_in, cut_by_the_end, ended_by_zeros, past_the_end, too_many};
 use super::encode;
-use super::messages::{any_message, descriptor, event, information, Style};
+use super::messages::{any_event, any_message, descriptor, event, information, Style};
 use crate::paper::{
     answer, code, write, Draft, DraftBody, Message, LONGEST, NUMBERS, PLAIN_DATA,
     PLAIN_DESCRIPTORS, PLAIN_EVENTS,
@@ -227,9 +227,12 @@ impl Fault {
             Fault::NoEvent => events.clear(),
             Fault::TooManyEvents => {
                 let count = more_than(random, PLAIN_EVENTS);
-                *events = (0..count).flat_map(|_| good_event(random)).collect();
+                *events = good_events(random, count);
             }
             Fault::NoWholeEvent => {
+                if random.one_in(8) {
+                    events.clear(); // not even one is whole
+                }
                 events.extend(good_event(random));
                 let cut = random.between(1, NUMBERS - 1);
                 events.truncate(events.len() / NUMBERS * NUMBERS - cut);
@@ -291,12 +294,13 @@ impl Fault {
     }
 }
 
-/// One more than `most`, some more, or so many that a count of one octet would
+/// One or two more than `most`, some more, or so many that a count of one octet would
 /// take them for few enough.
 fn more_than(random: &mut Random, most: usize) -> usize {
     match random.below(8) {
         0 => random.between(most + 1, 5 * most),
         1 => 256 + random.between(1, most),
+        2..=4 => most + 2,
         _ => most + 1,
     }
 }
@@ -316,9 +320,12 @@ fn with_beyond(random: &mut Random, mut numbers: [u64; NUMBERS], field: usize) -
     numbers.to_vec()
 }
 
+pub fn good_events(random: &mut Random, count: usize) -> Vec<u64> {
+    (0..count).flat_map(|_| good_event(random)).collect()
+}
+
 fn good_event(random: &mut Random) -> [u64; NUMBERS] {
-    let kind = random.octet_between(1, 4);
-    event(random, kind).numbers()
+    any_event(random).numbers()
 }
 
 /// Puts an event in the place of one of the whole ones, or as the only one.

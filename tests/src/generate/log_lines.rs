@@ -51,14 +51,17 @@ pub enum LineFault {
     Nothing,
     NumberBeyond16Bits,
     Position0,
+    PositionBehindLast,
     PositionBeyond,
+    FirstPositionWithZero,
+    LastPositionWithZero,
     NoEventType,
     ValueBeyondItsWidth,
     ValueBeyond64Bits,
 }
 
 impl LineFault {
-    pub const ALL: [LineFault; 18] = [
+    pub const ALL: [LineFault; 21] = [
         LineFault::LeadingZero,
         LineFault::Sign,
         LineFault::CarriageReturn,
@@ -73,7 +76,10 @@ impl LineFault {
         LineFault::Nothing,
         LineFault::NumberBeyond16Bits,
         LineFault::Position0,
+        LineFault::PositionBehindLast,
         LineFault::PositionBeyond,
+        LineFault::FirstPositionWithZero,
+        LineFault::LastPositionWithZero,
         LineFault::NoEventType,
         LineFault::ValueBeyondItsWidth,
         LineFault::ValueBeyond64Bits,
@@ -138,6 +144,7 @@ impl LineFault {
         match self {
             LineFault::NumberBeyond16Bits => values[0] = beyond(random, 16, 64),
             LineFault::Position0 => values[1] = 0,
+            LineFault::PositionBehindLast => values[1] = BEHIND_LAST,
             LineFault::PositionBeyond => values[1] = position_beyond(random),
             LineFault::NoEventType => values[2] = no_event_type(random),
             LineFault::ValueBeyondItsWidth => {
@@ -156,6 +163,8 @@ impl LineFault {
                 let zeros = if random.one_in(4) { 20 } else { 1 };
                 *field = "0".repeat(zeros) + field;
             }
+            LineFault::FirstPositionWithZero => fields[1] = String::from("01"),
+            LineFault::LastPositionWithZero => fields[1] = format!("0{PLAIN_EVENTS}"),
             LineFault::Sign => field.insert(0, if random.one_in(2) { '+' } else { '-' }),
             LineFault::EmptyField => field.clear(),
             LineFault::ForeignCharacter => {
@@ -191,12 +200,13 @@ impl LineFault {
     }
 }
 
+/// The first position that is too great.
+const BEHIND_LAST: u64 = PLAIN_EVENTS as u64 + 1;
+
 fn position_beyond(random: &mut Random) -> u64 {
-    let next = PLAIN_EVENTS as u64 + 1;
-    match random.below(3) {
-        0 => next,
-        1 => next + random.below(20) as u64,
-        _ => beyond(random, 8, 64),
+    match random.one_in(2) {
+        true => BEHIND_LAST + random.below(20) as u64,
+        false => beyond(random, 8, 64),
     }
 }
 
@@ -247,6 +257,7 @@ pub struct LogEntry {
 pub enum EntryFault {
     NumberBeyond16Bits,
     Position0,
+    PositionBehindLast,
     PositionBeyond,
     NotSevenNumbers,
     NoEventType,
@@ -254,9 +265,10 @@ pub enum EntryFault {
 }
 
 impl EntryFault {
-    pub const ALL: [EntryFault; 6] = [
+    pub const ALL: [EntryFault; 7] = [
         EntryFault::NumberBeyond16Bits,
         EntryFault::Position0,
+        EntryFault::PositionBehindLast,
         EntryFault::PositionBeyond,
         EntryFault::NotSevenNumbers,
         EntryFault::NoEventType,
@@ -293,6 +305,7 @@ pub fn any_log_entry(random: &mut Random) -> LogEntry {
         None => {}
         Some(EntryFault::NumberBeyond16Bits) => entry.number = beyond(random, 16, 64),
         Some(EntryFault::Position0) => entry.position = 0,
+        Some(EntryFault::PositionBehindLast) => entry.position = BEHIND_LAST,
         Some(EntryFault::PositionBeyond) => entry.position = position_beyond(random),
         Some(EntryFault::NotSevenNumbers) => {
             let length = random.pick(&[0, 1, NUMBERS - 1, NUMBERS + 1, 2 * NUMBERS]);

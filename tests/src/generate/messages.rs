@@ -12,10 +12,13 @@ use std::borrow::Cow;
 pub enum Style {
     /// Only what the paper's plain form allows.
     Plain,
+    /// The same, and few events: what a link without a storm has to tell.
+    Quiet,
     /// All that is accepted: ignored bits set, no parts or many, any order.
     Loose,
 }
 
+const FEW_EVENTS: usize = 4;
 /// The most parts that fit a frame of 1,514 octets.
 const MOST_EVENTS: usize = 37;
 const MOST_DESCRIPTORS: usize = 498;
@@ -63,7 +66,7 @@ fn body(random: &mut Random, code: u8, style: Style) -> Body<'static> {
 fn parts(random: &mut Random, style: Style) -> Vec<Part> {
     let local = Part::Local(information(random, style));
     let remote = Part::Remote(information(random, style));
-    let orders = if style == Style::Plain { 3 } else { 5 };
+    let orders = if style == Style::Loose { 5 } else { 3 };
     match random.below(orders) {
         0 => vec![],
         1 => vec![local],
@@ -76,7 +79,7 @@ fn parts(random: &mut Random, style: Style) -> Vec<Part> {
 pub fn information(random: &mut Random, style: Style) -> Information {
     // The bits that the paper names; in the plain form the others are zero.
     let (state, configuration, pdu_configuration) = match style {
-        Style::Plain => (0x07, 0x1F, 0x07FF),
+        Style::Plain | Style::Quiet => (0x07, 0x1F, 0x07FF),
         Style::Loose => (0xFF, 0xFF, 0xFFFF),
     };
     Information {
@@ -96,16 +99,29 @@ pub fn information(random: &mut Random, style: Style) -> Information {
 
 fn events(random: &mut Random, style: Style) -> Vec<Event> {
     let count = match style {
+        Style::Plain if random.one_in(16) => return storm(random),
         Style::Plain => random.between(1, PLAIN_EVENTS),
-        Style::Loose if random.one_in(12) => random.between(PLAIN_EVENTS + 1, MOST_EVENTS),
-        Style::Loose => random.between(0, PLAIN_EVENTS),
+        Style::Quiet => random.between(1, FEW_EVENTS),
+        Style::Loose if random.one_in(12) => random.between(FEW_EVENTS + 1, MOST_EVENTS),
+        Style::Loose => random.between(0, FEW_EVENTS),
     };
-    (0..count)
-        .map(|_| {
-            let kind = random.octet_between(1, 4);
-            event(random, kind)
-        })
-        .collect()
+    some_events(random, count)
+}
+
+/// As many events as a notification takes, all of one type: of type 1 they make the
+/// longest one.
+fn storm(random: &mut Random) -> Vec<Event> {
+    let kind = random.octet_between(1, 4);
+    (0..PLAIN_EVENTS).map(|_| event(random, kind)).collect()
+}
+
+pub fn some_events(random: &mut Random, count: usize) -> Vec<Event> {
+    (0..count).map(|_| any_event(random)).collect()
+}
+
+pub fn any_event(random: &mut Random) -> Event {
+    let kind = random.octet_between(1, 4);
+    event(random, kind)
 }
 
 pub fn event(random: &mut Random, kind: u8) -> Event {
@@ -118,7 +134,7 @@ pub fn event(random: &mut Random, kind: u8) -> Event {
 
 fn descriptors(random: &mut Random, style: Style) -> Vec<Descriptor> {
     let count = match style {
-        Style::Plain => random.between(1, PLAIN_DESCRIPTORS),
+        Style::Plain | Style::Quiet => random.between(1, PLAIN_DESCRIPTORS),
         Style::Loose if random.one_in(20) => random.between(0, MOST_DESCRIPTORS),
         // Fourteen end exactly at the end of the shortest frame.
         Style::Loose if random.one_in(4) => 14,

@@ -3,7 +3,7 @@
 use super::containers::{branch_0_put_in, past_the_end};
 use super::valid::{loose, plain};
 use super::{encode, messages};
-use crate::paper::{code, BODY, LONGEST, SHORTEST};
+use crate::paper::{code, Body, BODY, LONGEST, PLAIN_EVENTS, SHORTEST};
 use crate::random::Random;
 
 /// A plain frame, one with an octet changed, added or taken off, or now and then
@@ -15,10 +15,21 @@ pub fn near_plain(random: &mut Random, code: u8) -> Vec<u8> {
         2 if frame.len() < LONGEST => frame.push(0),
         3 => drop(frame.pop()),
         4 => return loose(random, code).frame,
+        5 if code == code::NOTIFICATION => return near_notification(random),
         5 if code == code::RESPONSE => return near_response(random),
         _ => change_octet(random, &mut frame),
     }
     frame
+}
+
+/// A notification that would be plain but for one event to four too many.
+fn near_notification(random: &mut Random) -> Vec<u8> {
+    let mut message = messages::any_message(random, code::NOTIFICATION, messages::Style::Plain);
+    if let Body::Notification { events, .. } = &mut message.body {
+        let count = PLAIN_EVENTS + random.between(1, 4);
+        *events = messages::some_events(random, count);
+    }
+    encode::plain(&message)
 }
 
 /// A response that would be plain but for a branch 0 inside, or for a width that

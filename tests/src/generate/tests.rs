@@ -535,7 +535,8 @@ fn drafts_reach_the_counts_at_the_bounds() {
     }
     let [events, descriptors, data] = counts;
     let (one, most) = (7, 7 * PLAIN_EVENTS);
-    assert!(events.is_superset(&[0, 1, one - 1, one, most - 1, most, most + 7].into()));
+    let bounds = [0, 1, one - 1, one, most - 1, most, most + 7, most + 14];
+    assert!(events.is_superset(&bounds.into()));
     assert!(descriptors.is_superset(&[0, 1, 2, 31, 32, 33].into()));
     assert!(data.is_superset(&[0, 38, 39, 40, 1493, 1494].into()));
 }

@@ -4,7 +4,7 @@
 use super::damage::any_damage;
 use super::lines::{of_frame, spoilt};
 use super::messages::any_code;
-use super::valid::{loose, plain};
+use super::valid::{loose, plain, quiet};
 use super::Made;
 use crate::paper::code;
 use crate::random::Random;
@@ -16,7 +16,8 @@ pub struct Kind {
     make: fn(&mut Random) -> Vec<u8>,
 }
 
-/// The mix; the shares add up to a hundred.
+/// The mix; the shares add up to a hundred. It has no storms: the figures of listers are
+/// comparable only on the same lines, and a seed gives those of before change request (vi).
 pub const TRAFFIC: [Kind; 9] = [
     Kind {
         name: "Information, plain",
@@ -31,7 +32,7 @@ pub const TRAFFIC: [Kind; 9] = [
     Kind {
         name: "Event Notification, 1 to 4 events",
         share: 10,
-        make: |random| of_frame(plain(random, code::NOTIFICATION)).text,
+        make: |random| of_frame(quiet(random, code::NOTIFICATION)).text,
     },
     Kind {
         name: "Variable Request, 1 to 32 descriptors",

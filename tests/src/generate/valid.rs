@@ -97,16 +97,25 @@ impl Layout {
 
 /// A frame in the plain form.
 pub fn plain(random: &mut Random, code: u8) -> Made {
-    let message = any_message(random, code, Style::Plain);
+    plain_of(any_message(random, code, Style::Plain))
+}
+
+/// One of a link without a storm.
+pub fn quiet(random: &mut Random, code: u8) -> Made {
+    plain_of(any_message(random, code, Style::Quiet))
+}
+
+fn plain_of(message: Message<'static>) -> Made {
     Made {
         frame: encode::plain(&message),
         claim: Claim::Accepted(message),
     }
 }
 
+/// A plain frame of a link without a storm, or a loose one.
 pub fn plain_or_loose(random: &mut Random, code: u8) -> Made {
     if random.one_in(2) {
-        plain(random, code)
+        quiet(random, code)
     } else {
         loose(random, code).made()
     }

@@ -13,8 +13,10 @@ use std::ops::RangeInclusive;
 #[cfg(test)]
 mod tests;
 
-/// The most events of a notification, and the log's greatest position.
-pub const PLAIN_EVENTS: usize = 4;
+/// The most events of a notification, and the log's greatest position. Change request
+/// (vi): "The writer takes up to 16", "The plain form follows" and "Log positions run 1
+/// to 16".
+pub const PLAIN_EVENTS: usize = 16;
 /// The most descriptors of a request.
 pub const PLAIN_DESCRIPTORS: usize = 32;
 /// Octets of an organization's data.

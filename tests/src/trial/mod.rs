@@ -8,6 +8,7 @@ mod pair;
 mod reading;
 mod report;
 mod skipping;
+mod storms;
 mod writers;
 
 #[cfg(test)]

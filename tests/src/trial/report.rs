@@ -11,6 +11,12 @@ pub struct Report {
     pub faults: Vec<String>,
 }
 
+/// How often a thing must be reached in a run of this length, if it must so many times in
+/// one of 200,000.
+pub fn least(times: usize, run: usize) -> usize {
+    (times * run / 200_000).max(1)
+}
+
 /// How often each thing was reached that must be.
 pub struct Tally<K> {
     counts: BTreeMap<K, Count>,

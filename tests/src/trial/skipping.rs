@@ -1,11 +1,8 @@
 //! What the walk of a frame skips, and what stands where it would be miscounted, told
 //! by the paper from the frame.
 
-use super::report::Tally;
+use super::report::{least, Tally};
 use crate::paper::{answer, check, code, list, list_start, Heading, Listed};
-
-/// How often each must come is said for so many frames; in fewer it is as much less.
-const FRAMES: usize = 200_000;
 
 #[derive(Clone, Copy, Debug, PartialEq, Eq, PartialOrd, Ord)]
 pub enum Skipping {
@@ -24,6 +21,7 @@ pub enum Skipping {
 }
 
 impl Skipping {
+    /// How often each must come in 200,000 frames.
     const ALL: [(Skipping, usize); 7] = [
         (Skipping::OneToFive, 20_000),
         (Skipping::MoreThan100, 200),
@@ -36,8 +34,8 @@ impl Skipping {
 
     /// What must come of so many frames.
     pub fn tally(frames: usize) -> Tally<Skipping> {
-        let least = |times: usize| (times * frames / FRAMES).max(1);
-        Tally::expecting_each(Skipping::ALL.map(|(skipping, times)| (skipping, least(times))))
+        let each = Skipping::ALL.map(|(skipping, times)| (skipping, least(times, frames)));
+        Tally::expecting_each(each)
     }
 
     /// All that a frame is an example of.

@@ -2,18 +2,21 @@
 //! the trial that is there for it.
 
 pub mod miscount;
+mod storms;
 
 use super::*;
 use crate::library::{
     answer_of, kind, length_of, ByHand, ByPaper, Library, HEADER, HEADER_SKIPPED, ROW, ROW_SKIPPED,
 };
+use crate::paper::log::{read_up_to, FIELDS, OLD_LAST_POSITION};
 use crate::paper::walk::next_container;
 use crate::paper::{
-    answer, asked, code, list, log::FIELDS, Draft, DraftBody, Listed, BODY, LONGEST, MOST_PARTS,
-    PLAIN_CONTAINER_OCTETS, PLAIN_EVENTS, SHORTEST,
+    answer, asked, code, list, Draft, DraftBody, Listed, BODY, LONGEST, MOST_PARTS,
+    PLAIN_CONTAINER_OCTETS, SHORTEST,
 };
 use miscount::Miscount;
 use std::cell::Cell;
+use storms::{log_read_up_to, seventeen_written};
 
 const SEED: u64 = 57;
 
@@ -70,6 +73,12 @@ fn each_slip_in_writing_is_found() {
         (MasksOui, "oam_write_organization"),
         (DropsRemoteAlone, "oam_write_information"),
         (DropsFurtherEvents, "oam_write_notification"),
+        (RefusesSixteenEvents, "oam_write_notification"),
+        (RefusesSixteenEvents, "a frame, read and written again"),
+        (TakesSeventeenEvents, "oam_write_notification"),
+        (TakesSeventeenEvents, "a frame, read and written again"),
+        (WritesFourEvents, "oam_write_notification"),
+        (WritesFourEvents, "a frame, read and written again"),
         (MasksBranch, "oam_write_request"),
         (TakesEndBeforeLast, "oam_write_response"),
         (TakesEndAsLast, "oam_write_response"),
@@ -77,7 +86,7 @@ fn each_slip_in_writing_is_found() {
         (DropsFurtherContainers, "oam_write_response"),
         (RefusesNoContainer, "oam_write_response"),
     ] {
-        let found = differing(writers, 400, slip);
+        let found = differing(writers, 1_000, slip);
         assert!(
             found.iter().any(|name| name == function),
             "{slip:?}: {found:?}"
@@ -188,6 +197,13 @@ fn each_slip_in_the_log_is_found() {
         (TakesShortValues, "oam_log_read"),
         (MasksNumber, "oam_log_write"),
         (TakesPosition0, "oam_log_write"),
+        (TakesPosition17, "oam_log_write"),
+        (TakesPosition17, "oam_log_read"),
+        (RefusesPosition16, "oam_log_write"),
+        (RefusesPosition16, "oam_log_read"),
+        (CutsPosition, "oam_log_write"),
+        (CutsPosition, "oam_log_read"),
+        (RefusesOldPositions, "a line, as the old build reads it"),
         (LogOutputBeforeValues, "oam_log_write"),
         (ClearsLogOutput, "oam_log_write"),
     ] {
@@ -216,6 +232,9 @@ enum Slip {
     MasksOui,
     DropsRemoteAlone,
     DropsFurtherEvents,
+    RefusesSixteenEvents,
+    TakesSeventeenEvents,
+    WritesFourEvents,
     MasksBranch,
     TakesEndBeforeLast,
     TakesEndAsLast,
@@ -267,6 +286,11 @@ enum Slip {
     TakesShortValues,
     MasksNumber,
     TakesPosition0,
+    TakesPosition17,
+    RefusesPosition16,
+    /// Its last digit is written, and one is read.
+    CutsPosition,
+    RefusesOldPositions,
     LogOutputBeforeValues,
     ClearsLogOutput,
 }
@@ -285,6 +309,11 @@ impl Library for Slipping {
         {
             if containers.is_empty() {
                 return answer::VALUES.into();
+            }
+        }
+        if self.slip == Slip::TakesSeventeenEvents {
+            if let Some(outcome) = seventeen_written(draft, out) {
+                return outcome;
             }
         }
         let before = out.to_vec();
@@ -310,11 +339,11 @@ impl Library for Slipping {
     }
 
     fn log_write(&self, number: u64, position: u64, event: &[u64], out: &mut [u8]) -> u64 {
-        let outcome = match self.slip {
-            Slip::MasksNumber => ByPaper.log_write(number & 0xFFFF, position, event, out),
-            Slip::TakesPosition0 => ByPaper.log_write(number, position.max(1), event, out),
-            _ => ByPaper.log_write(number, position, event, out),
+        let number = match self.slip {
+            Slip::MasksNumber => number & 0xFFFF,
+            _ => number,
         };
+        let outcome = ByPaper.log_write(number, self.position(position), event, out);
         match (self.slip, answer_of(outcome)) {
             (Slip::ClearsLogOutput, answer::ACCEPTED) => out[(outcome >> 8) as usize..].fill(0),
             (Slip::LogOutputBeforeValues, answer::VALUES) if out.is_empty() => {
@@ -333,8 +362,12 @@ impl Library for Slipping {
                 kept.copied().collect()
             }
             Slip::TakesNoNewline if !text.ends_with(b"\n") => [text, b"\n"].concat(),
+            Slip::RefusesOldPositions if read_up_to(OLD_LAST_POSITION, text).is_ok() => vec![],
             _ => text.to_vec(),
         };
+        if let Some(last) = self.last_position() {
+            return log_read_up_to(last, &text, values);
+        }
         if self.slip == Slip::TakesShortValues && values.len() == FIELDS - 1 {
             return ByPaper.log_read(&text, &mut [0; FIELDS]);
         }
@@ -555,9 +588,7 @@ impl Slipping {
             {
                 remote.clear()
             }
-            (Slip::DropsFurtherEvents, DraftBody::Notification { events, .. }) => {
-                events.truncate(7 * PLAIN_EVENTS)
-            }
+            (_, DraftBody::Notification { events, .. }) => self.take_events(events),
             (Slip::MasksBranch, DraftBody::Request { descriptors }) => {
                 for descriptor in descriptors {
                     *descriptor &= 0xFF_FFFF;

@@ -4,18 +4,20 @@
 use super::contest::Contest;
 use super::lent::{Lent, Room};
 use super::report::{Report, Tally};
+use super::storms::Storms;
 use super::THIS_PACKAGE;
 use crate::compare::{from_difference, hex};
 use crate::generate::{any_draft, faults, near_plain, DraftClaim, Fault, MadeDraft};
 use crate::library::{answer_of, length_of, message, writer_name, Library, Unread};
 use crate::paper::{
-    answer, check, code, is_plain, list, read, Draft, DraftBody, Message, BODY, LONGEST, SHORTEST,
+    answer, check, code, is_plain, list, read, Draft, DraftBody, Message, BODY, LONGEST, NUMBERS,
+    SHORTEST,
 };
 use crate::random::Random;
 
 /// Tries `messages` drafts of every code, and as many frames of every code.
 pub fn writers(library: &dyn Library, seed: u64, messages: usize) -> Report {
-    let mut trial = Trial::new(library, seed);
+    let mut trial = Trial::new(library, seed, messages);
     for code in code::ALL {
         for _ in 0..messages {
             let made = any_draft(&mut trial.random, code);
@@ -42,10 +44,11 @@ struct Trial<'a> {
     read_back: Tally<u8>,
     /// Frames by the code of those that are accepted, plain or not.
     written_again: Tally<(Option<u8>, bool)>,
+    storms: Storms,
 }
 
 impl<'a> Trial<'a> {
-    fn new(library: &'a dyn Library, seed: u64) -> Self {
+    fn new(library: &'a dyn Library, seed: u64, messages: usize) -> Self {
         Trial {
             contest: Contest::new(library),
             random: Random::new(seed),
@@ -55,6 +58,7 @@ impl<'a> Trial<'a> {
             short_in_long: Tally::expecting(code::ALL),
             read_back: Tally::expecting(code::ALL),
             written_again: Tally::expecting(plain_or_not()),
+            storms: Storms::new(messages),
         }
     }
 
@@ -79,6 +83,10 @@ impl<'a> Trial<'a> {
             let answer = answer_of(called.outcome);
             self.answers.count((code, answer));
             self.rooms.count((room, answer));
+            if let DraftBody::Notification { events, .. } = &made.draft.body {
+                self.storms
+                    .note(events.len() / NUMBERS, room, called.outcome);
+            }
             if (room, length_of(called.outcome)) == (Room::Longest, SHORTEST) {
                 self.short_in_long.count(code);
             }
@@ -118,6 +126,9 @@ impl<'a> Trial<'a> {
         let plain = is_plain(frame);
         let code = check(frame).ok().map(|heading| heading.code);
         self.written_again.count((code, plain));
+        if code == Some(code::NOTIFICATION) {
+            self.storms.note_again(frame, plain);
+        }
         let mut out = [0xEE; LONGEST]; // no zeros, which a frame may end with
         let again = written_again(self.contest.library, frame, &mut out);
         if (again == Ok(frame)) != plain {
@@ -156,6 +167,7 @@ impl<'a> Trial<'a> {
                 Some(code) => format!("of code {code:02X}, {not}plain"),
             }
         });
+        self.storms.report(&mut report);
         report
     }
 }

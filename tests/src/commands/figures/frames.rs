@@ -6,13 +6,16 @@ use crate::commands::Outcome;
 use oam_tests::by_hand;
 use oam_tests::compare::grouped;
 use oam_tests::library::{length_of, Archive, ByPaper, Library, HEADER, ROW};
-use oam_tests::paper::{code, list_start, write, Draft, DraftBody, LONGEST, MOST_PARTS};
+use oam_tests::paper::{
+    code, list_start, write, Draft, DraftBody, LONGEST, MOST_PARTS, PLAIN_EVENTS,
+};
 use std::hint::black_box;
 
 pub fn measure(meter: &mut impl Meter) -> Outcome {
     for code in code::ALL {
-        measure_writer(meter, &draft(code))?;
+        measure_writer(meter, name(code), &draft(code))?;
     }
+    measure_writer(meter, "Notification, 16 events", &storm_draft())?;
     for code in code::ALL {
         measure_reader(meter, code, &frame(code)?)?;
     }
@@ -37,18 +40,28 @@ pub const EVENTS: [[u64; 7]; 4] = [
     [4, 0, 600, 1, 60, 256, 11],
 ];
 
+/// As many events as a notification takes, of the longest type.
+pub fn storm() -> Vec<u64> {
+    EVENTS[0].repeat(PLAIN_EVENTS)
+}
+
+pub fn storm_draft() -> Draft {
+    draft_of(notification(storm()))
+}
+
+fn notification(events: Vec<u64>) -> DraftBody {
+    DraftBody::Notification { number: 18, events }
+}
+
 /// One draft of each kind, of the size that it usually has or could have.
 pub fn draft(code: u8) -> Draft {
     let tlv = [1, 42, 0x05, 0x1D, 1518, 0x00_1B21, 0xDEAD_BEEF];
-    let body = match code {
+    draft_of(match code {
         code::INFORMATION => DraftBody::Information {
             local: tlv.to_vec(),
             remote: tlv.to_vec(),
         },
-        code::NOTIFICATION => DraftBody::Notification {
-            number: 18,
-            events: EVENTS.concat(),
-        },
+        code::NOTIFICATION => notification(EVENTS.concat()),
         code::REQUEST => DraftBody::Request {
             descriptors: (1..=32).map(|leaf| 0x07_0000 | leaf).collect(),
         },
@@ -60,7 +73,10 @@ pub fn draft(code: u8) -> Draft {
             oui: 0x00_1B21,
             data: vec![0x5A; 1000],
         },
-    };
+    })
+}
+
+fn draft_of(body: DraftBody) -> Draft {
     Draft {
         source: SOURCE,
         flags: FLAGS,
@@ -89,15 +105,15 @@ fn name(code: u8) -> &'static str {
 
 // What is measured.
 
-fn measure_writer(meter: &mut impl Meter, draft: &Draft) -> Outcome {
+fn measure_writer(meter: &mut impl Meter, name: &str, draft: &Draft) -> Outcome {
     let (mut out, mut own_out) = ([0; LONGEST], [0; LONGEST]);
     let outcome = Archive.write(draft, &mut out);
     if outcome != ByPaper.write(draft, &mut own_out) || out != own_out {
         return Err(format!("{draft} is written otherwise; see the command writers").into());
     }
-    let (code, length) = (draft.body.code(), grouped(length_of(outcome)));
+    let length = grouped(length_of(outcome));
     meter.row(
-        &format!("write {}, {length} octets", name(code)),
+        &format!("write {name}, {length} octets"),
         || Archive.write(black_box(draft), &mut out),
         || write(black_box(draft), &mut own_out),
     );

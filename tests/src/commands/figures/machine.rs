@@ -1,7 +1,7 @@
 //! The archive's link machine beside the paper's, each call from the same state
 //! every time. Of a tick the paper's end is taken, and windows with running sums.
 
-use super::frames::{frame, EVENTS};
+use super::frames::{frame, storm, EVENTS};
 use super::meter::Meter;
 use crate::commands::Outcome;
 use oam_tests::by_hand::windows::Watch;
@@ -77,11 +77,13 @@ pub fn measure(meter: &mut impl Meter) -> Outcome {
     Ok(())
 }
 
-/// A notification; all eight counters of eight; and as many answers as fit to the
-/// most that can be asked, where the most are held and none of those.
+/// Notifications of a few events and of a storm; all eight counters of eight; and as many
+/// answers as fit to the most that can be asked, where the most are held and none of those.
 fn measure_requests(meter: &mut impl Meter, any: &Stand) -> Outcome {
     let notify = Call::Notify(EVENTS.concat());
     any.measure(meter, "notify of four events, granted", &notify, (0, 132))?;
+    let notify = Call::Notify(storm());
+    any.measure(meter, "notify of 16 events, granted", &notify, (0, 660))?;
     let counters = |count: u32| (1..=count).map(|leaf| 0x07_0000 | leaf);
     let eight = respond(counters(8), counters(8));
     any.measure(meter, "respond with 8 of 8", &eight, (0, 114))?;

@@ -1,6 +1,7 @@
 //! `figures`: the tables of docs/PERFORMANCE.md, ready to be pasted.
 
 mod frames;
+mod log;
 mod machine;
 mod meter;
 mod stack;
@@ -47,6 +48,9 @@ pub fn run(arguments: &Arguments) -> Outcome {
     println!("\n## Writing and reading a frame\n");
     table.head();
     frames::measure(&mut table)?;
+    println!("\n## The log\n");
+    table.head();
+    log::measure(&mut table)?;
     println!("\n## The machine\n");
     table.head();
     machine::measure(&mut table)?;
@@ -64,6 +68,7 @@ const NOTHING: &str = "nothing";
 pub fn counted(_: &Arguments) -> Outcome {
     Counter.row(NOTHING, || (), || ());
     frames::measure(&mut Counter)?;
+    log::measure(&mut Counter)?;
     machine::measure(&mut Counter)
 }
 
@@ -159,8 +164,9 @@ mod tests {
     fn no_row_drifts_and_each_has_a_name_of_its_own() {
         let mut steady = Steady::default();
         frames::measure(&mut steady).expect("the archive is the paper's");
+        log::measure(&mut steady).expect("the archive's log is the paper's");
         machine::measure(&mut steady).expect("the archive's machine is the paper's");
-        assert_eq!(steady.rows, 6 + 6 + 4 + 1 + 12);
+        assert_eq!(steady.rows, 7 + 6 + 4 + 1 + 2 + 13);
         assert_eq!(steady.names.len(), steady.rows);
     }
 }

@@ -1,5 +1,6 @@
 //! The most stack that each entry of the archive took, over many inputs.
 
+use super::frames::{storm, storm_draft};
 use super::machine::Stand;
 use oam_tests::generate::machine::{any_setup, directed_scripts, Script};
 use oam_tests::generate::{any_draft, any_frame, any_log_entry, any_log_line, every_frame};
@@ -40,7 +41,9 @@ pub fn measure(seed: u64) -> Result<Depths, String> {
         deepest: BTreeMap::new(),
     };
     depths.writers();
-    depths.frames(Stand::in_send_any()?.state);
+    let any = Stand::in_send_any()?.state;
+    depths.storm(any);
+    depths.frames(any);
     depths.log();
     for _ in 0..SCRIPTS {
         depths.script();
@@ -70,6 +73,17 @@ impl Depths {
                 self.note(writer_name(code), || Archive.write(&draft, &mut out));
             }
         }
+    }
+
+    /// As many events as there may be, written and sent by an end with this state.
+    fn storm(&mut self, mut state: [u8; STATE_OCTETS]) {
+        let (draft, mut out) = (storm_draft(), [0; LONGEST]);
+        let writer = writer_name(code::NOTIFICATION);
+        self.note(writer, || Archive.write(&draft, &mut out));
+        let notify = Call::Notify(storm());
+        self.note(notify.name(), || {
+            Archive.call(&notify, &mut [], &mut state, &mut out)
+        });
     }
 
     /// Frames of every length and kind: read, read with their rows, read for their

@@ -2,6 +2,7 @@
 
 use super::counts::Counts;
 use super::responding::responding_scripts;
+use super::storms::storm_scripts;
 use super::stretch::stretch_scripts;
 use super::windows::{any_windows, windows_scripts};
 use super::wraps::{local, received, stretch_of_ticks};
@@ -18,8 +19,8 @@ pub type Uncounted = (Settings, Vec<Turn>);
 
 /// For ends of every mode: a link without a peer is lost, with and without a frame
 /// owed; one is owed while a link that is down comes up; a peer's field is kept
-/// before there is a record of it. And the scripts of responses and of the limit,
-/// all with any windows and counts, and the scripts of windows with theirs.
+/// before there is a record of it. And the scripts of responses, of storms and of the
+/// limit, all with any windows and counts, and the scripts of windows with theirs.
 pub fn directed_scripts(random: &mut Random) -> Vec<Directed> {
     let modes = 0..=configuration::ACTIVE | configuration::UNIDIRECTIONAL;
     let each = |mode| {
@@ -32,7 +33,7 @@ pub fn directed_scripts(random: &mut Random) -> Vec<Directed> {
         calls.map(|calls| (settings(mode), with_room(calls)))
     };
     let scripts = modes.flat_map(each).chain(responding_scripts());
-    let scripts = scripts.chain(stretch_scripts());
+    let scripts = scripts.chain(storm_scripts()).chain(stretch_scripts());
     let mut scripts: Vec<Directed> = scripts.map(|script| counted(random, script)).collect();
     scripts.extend(windows_scripts());
     scripts

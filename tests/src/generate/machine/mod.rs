@@ -10,6 +10,7 @@ mod response_faults;
 mod responses;
 mod script;
 mod settings;
+mod storms;
 mod stretch;
 mod windows;
 mod wraps;

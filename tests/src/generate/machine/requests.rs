@@ -1,10 +1,10 @@
 //! The client's requests, with values in range and out of it.
 
 use super::responses::any_respond;
-use crate::generate::drafts::any_draft;
+use crate::generate::drafts::{any_draft, good_events};
 use crate::generate::messages::{any_message, Style};
 use crate::library::machine::Call;
-use crate::paper::{code, Draft, DraftBody};
+use crate::paper::{code, Draft, DraftBody, PLAIN_EVENTS};
 use crate::random::Random;
 
 /// One of the six requests, of an end whose smaller maximum size is this one, as far
@@ -20,6 +20,9 @@ pub fn any_request(random: &mut Random, size: usize) -> Call {
     ]);
     if code == code::RESPONSE {
         return any_respond(random, size);
+    }
+    if code == code::NOTIFICATION && random.one_in(8) {
+        return Call::Notify(good_events(random, PLAIN_EVENTS + 1));
     }
     let draft = match random.below(4) {
         0 => any_draft(random, code).draft,

@@ -10,7 +10,7 @@ use crate::paper::{Body, Information, Part, BODY, MOST_ASKED, MOST_ATTRIBUTES};
 
 /// The sizes at both ends of their range.
 const SIZES_OF_NOTE: [u16; 12] = [64, 65, 66, 67, 68, 69, 70, 1514, 1515, 1516, 1517, 1518];
-const GREATEST: u16 = 1518;
+pub const GREATEST: u16 = 1518;
 
 const RETRIEVAL: u8 = configuration::VARIABLE_RETRIEVAL;
 const ACTIVE: u8 = configuration::ACTIVE;
@@ -51,9 +51,9 @@ pub fn responding_scripts() -> Vec<Uncounted> {
     scripts
 }
 
-/// Responses of an end in SEND_ANY, or in no more than SEND_LOCAL_REMOTE where both
+/// Requests of an end in SEND_ANY, or in no more than SEND_LOCAL_REMOTE where both
 /// are passive, by the configurations and maximum sizes of both.
-fn script(own: (u8, u16), peer: (u8, u16), responses: Vec<Call>) -> Uncounted {
+pub fn script(own: (u8, u16), peer: (u8, u16), requests: Vec<Call>) -> Uncounted {
     let (configuration, size) = own;
     let settings = Settings {
         configuration,
@@ -65,9 +65,9 @@ fn script(own: (u8, u16), peer: (u8, u16), responses: Vec<Call>) -> Uncounted {
     };
     let heard = local_of(peer);
     let mut calls = vec![reported(Report::LinkUp)];
-    // Eleven intervals have one or two frames that the ticks write. The last response
+    // Eleven intervals have one or two frames that the ticks write. The last request
     // is made twice more, so that one at least is too many where all could be granted.
-    for some in responses.chunks(usize::from(MOST_FRAMES) - 2) {
+    for some in requests.chunks(usize::from(MOST_FRAMES) - 2) {
         calls.push(heard.clone());
         calls.extend(stretch_of_ticks());
         calls.extend_from_slice(some);

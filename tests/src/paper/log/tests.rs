@@ -49,13 +49,16 @@ fn a_line_of_every_type_is_written_and_read() {
 }
 
 #[test]
-fn the_longest_line_has_111_octets() {
+fn the_longest_line_has_112_octets() {
     let (two, four) = (u64::from(u16::MAX), u64::from(u32::MAX));
     let most = u64::MAX;
-    let longest = [two, 4, 1, two, most, most, most, most, four];
-    let line = written(&longest).expect("in range");
-    assert_eq!(line.len(), LONGEST_LINE);
-    assert_eq!(read(&line), Ok(longest));
+    for (position, octets) in [(9, 111), (10, 112), (16, 112)] {
+        let longest = [two, position, 1, two, most, most, most, most, four];
+        let line = written(&longest).expect("in range");
+        assert_eq!(line.len(), octets, "position {position}");
+        assert_eq!(read(&line), Ok(longest));
+    }
+    assert_eq!(LONGEST_LINE, 112);
 }
 
 /// The good fields with one of them changed.
@@ -84,9 +87,21 @@ fn numbers_have_sixteen_bits() {
 }
 
 #[test]
-fn positions_are_1_to_4() {
-    for position in (0..20).chain([257, u64::MAX]) {
-        assert_eq!(in_range(with(1, position)), (1..=4).contains(&position));
+fn positions_are_1_to_16() {
+    for position in (0..40).chain([257, u64::MAX]) {
+        assert_eq!(in_range(with(1, position)), (1..=16).contains(&position));
+    }
+}
+
+/// Change request (vi): "Old log lines read as before".
+#[test]
+fn the_old_build_reads_positions_up_to_4_to_the_same_values() {
+    for position in 1..=16 {
+        let fields = with(1, position);
+        let line = written(&fields).expect("in range");
+        let old = if position <= 4 { Ok(fields) } else { Err(14) };
+        assert_eq!(read_up_to(OLD_LAST_POSITION, &line), old, "{position}");
+        assert_eq!(read(&line), Ok(fields));
     }
 }
 
@@ -160,6 +175,9 @@ fn what_is_not_nine_decimal_fields_is_14() {
         "\t1\t4\t1\t2\t3\t4\t5\t6\n",
         "07\t1\t4\t1\t2\t3\t4\t5\t6\n",
         "7\t1\t4\t00\t2\t3\t4\t5\t6\n",
+        "7\t01\t4\t1\t2\t3\t4\t5\t6\n",
+        "7\t016\t4\t1\t2\t3\t4\t5\t6\n",
+        "7\t1 6\t4\t1\t2\t3\t4\t5\t6\n",
         "+7\t1\t4\t1\t2\t3\t4\t5\t6\n",
         "-7\t1\t4\t1\t2\t3\t4\t5\t6\n",
         "7\t1\t4\t1\t-0\t3\t4\t5\t6\n",

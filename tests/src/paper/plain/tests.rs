@@ -105,11 +105,13 @@ fn the_length_is_the_shortest() {
 }
 
 #[test]
-fn one_to_four_events_and_one_to_32_descriptors_are_plain() {
-    for count in 0..=8 {
+fn one_to_16_events_and_one_to_32_descriptors_are_plain() {
+    for count in 0..=37 {
         let events = EVENT.repeat(count);
-        let expected = (1..=4).contains(&count);
-        assert_eq!(plain(&format!("01 ffff {events}")), expected, "{count}");
+        let expected = (1..=16).contains(&count);
+        let frame = frame(&format!("01 ffff {events}"));
+        assert_eq!(is_plain(&frame), expected, "{count}");
+        assert!(read(&frame).is_ok(), "{count}"); // the reader has no limit
     }
     for count in 0..=40 {
         let descriptors = "07 1234".repeat(count);

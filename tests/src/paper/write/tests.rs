@@ -275,18 +275,27 @@ fn a_reserved_parser_is_plain() {
 }
 
 #[test]
-fn one_to_four_events_are_plain() {
+fn one_to_sixteen_events_are_plain() {
     for count in 0..=40 {
         let frame = written(&notification(0, &FRAME.repeat(count)));
-        assert_eq!(frame.is_ok(), (1..=4).contains(&count), "{count} events");
+        assert_eq!(frame.is_ok(), (1..=16).contains(&count), "{count} events");
     }
 }
 
 #[test]
+fn the_longest_notification_has_660_octets() {
+    let tlvs = SYMBOL_PERIOD_TLV.repeat(16);
+    let frame = written(&notification(0x1234, &SYMBOL_PERIOD.repeat(16)));
+    assert_eq!(frame.as_ref().map(Vec::len), Ok(660));
+    assert_eq!(frame, notifying(&tlvs));
+    assert!(is_refused(&notification(0x1234, &SYMBOL_PERIOD.repeat(17))));
+}
+
+#[test]
 fn events_are_whole() {
-    for length in 0..=35 {
+    for length in 0..=7 * 17 {
         let numbers: Vec<u64> = FRAME.iter().cycle().take(length).copied().collect();
-        let whole = [7, 14, 21, 28].contains(&length);
+        let whole = length % 7 == 0 && (7..=112).contains(&length);
         assert_eq!(written(&notification(0, &numbers)).is_ok(), whole);
     }
 }
@@ -406,7 +415,7 @@ fn an_organization_has_39_to_1493_octets_and_an_oui_of_24_bits() {
 fn an_output_shorter_than_the_frame_is_9_and_stays() {
     for draft in [
         information(&[], &[]),
-        notification(0, &FRAME.repeat(4)),
+        notification(0, &FRAME.repeat(16)),
         request(&[0x07_0002; 15]),
         response("07 0002 a1"),
         response(&"07 0002 a1".repeat(15)),
@@ -427,6 +436,8 @@ fn an_output_shorter_than_the_frame_is_9_and_stays() {
 #[test]
 fn ten_comes_before_9() {
     assert_eq!(write(&loopback(3), &mut []), Err(10));
+    let seventeen = notification(0, &FRAME.repeat(17));
+    assert_eq!(write(&seventeen, &mut []), Err(10));
     assert_eq!(write(&information(&[], &LOCAL_NUMBERS), &mut []), Err(10));
     assert_eq!(write(&response("00"), &mut []), Err(10));
     assert_eq!(write(&organization(0, 38), &mut [0; 59]), Err(10));

@@ -10,6 +10,7 @@ mod notifying;
 mod played;
 mod responding;
 mod skipping;
+mod storming;
 mod unmade;
 mod unwatched;
 mod watching;
@@ -35,6 +36,7 @@ use limiting::Limiting;
 use played::Played;
 use responding::Responding;
 use skipping::Skipping;
+use storming::Storming;
 use watching::Watching;
 
 /// The fewest and the most calls of a script.
@@ -66,6 +68,7 @@ struct Trial<'a> {
     happenings: Tally<Happening>,
     limiting: Tally<Limiting>,
     skipping: Tally<Skipping>,
+    storming: Tally<Storming>,
     /// Refusals with a State octet other than 00.
     busy: Tally<(&'static str, u8)>,
     responding: Responding,
@@ -90,6 +93,7 @@ impl<'a> Trial<'a> {
             happenings: Tally::expecting(Happening::ALL),
             limiting: Limiting::tally(calls),
             skipping: Skipping::tally(calls),
+            storming: Storming::tally(calls),
             busy: Tally::expecting(possible_busy()),
             responding: Responding::new(calls),
             damaged: Damaged::new(),
@@ -215,6 +219,9 @@ impl<'a> Trial<'a> {
         if let Some(skipping) = Skipping::of(&seen) {
             self.skipping.count(skipping);
         }
+        for storming in Storming::of(&seen) {
+            self.storming.count(storming);
+        }
         let limits = played.owing.after(&seen);
         self.responding.note(&before, played.last_call(), &outcome);
         (played.owing, played.limiting) = limits;
@@ -265,6 +272,8 @@ impl<'a> Trial<'a> {
         });
         let title = "frames received with TLVs that are skipped";
         report.add(title, &self.skipping, |skipping| format!("{skipping:?}"));
+        let title = "notifications of more than four events";
+        report.add(title, &self.storming, |storming| format!("{storming:?}"));
     }
 }
 

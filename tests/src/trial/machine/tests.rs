@@ -49,7 +49,7 @@ fn every_answer_of_the_machine_must_come() {
 #[test]
 fn each_slip_is_found() {
     for slip in Slip::ALL {
-        assert!(differs(slip, 60_000), "{slip:?}");
+        assert!(differs(slip, 120_000), "{slip:?}");
     }
 }
 
@@ -81,6 +81,15 @@ fn each_slip_in_skips_is_found_in_a_receive() {
     assert_eq!(Slip::in_skips().count(), 9);
     for slip in Slip::in_skips() {
         assert_found_in(slip, 20_000, "oam_receive");
+    }
+}
+
+/// The slips of change request (vi).
+#[test]
+fn each_slip_in_storms_is_found_by_directed_scripts_alone() {
+    assert_eq!(Slip::in_storms().count(), 4);
+    for slip in Slip::in_storms() {
+        assert_found_in(slip, 0, "oam_notify");
     }
 }
 

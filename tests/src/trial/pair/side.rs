@@ -6,7 +6,7 @@ use crate::library::machine::{Call, Machine, Outcome, Setup, Turn, SHOWN_NUMBERS
 use crate::paper::machine::{
     Discovery, Report, Role, Settings, COMPLETE, LOST_LINK, MOST_FRAMES, STRETCH,
 };
-use crate::paper::{answer, read, Body, LONGEST};
+use crate::paper::{answer, read, Body, LONGEST, NUMBERS, PLAIN_EVENTS};
 use crate::trial::report::Tally;
 
 pub struct Side<'a> {
@@ -32,6 +32,8 @@ pub struct Side<'a> {
 pub enum Sight {
     FrameWritten,
     ResponseWritten,
+    /// A notification of as many events as there may be.
+    StormWritten,
     FrameAccepted,
     Refused,
     RefusedWith13,
@@ -48,9 +50,10 @@ pub enum Sight {
 }
 
 impl Sight {
-    pub const ALL: [Sight; 15] = [
+    pub const ALL: [Sight; 16] = [
         Sight::FrameWritten,
         Sight::ResponseWritten,
+        Sight::StormWritten,
         Sight::FrameAccepted,
         Sight::Refused,
         Sight::RefusedWith13,
@@ -196,12 +199,15 @@ impl<'a> Side<'a> {
         let begun = looping && !was_looping;
         let silent = |ticks: u8| self.silence == Some(ticks.into());
         let full = self.written() == MOST_FRAMES;
+        let most = NUMBERS * PLAIN_EVENTS;
+        let storm = matches!(call, Call::Notify(events) if events.len() == most);
         let seen = [
             (Sight::FrameWritten, wrote),
             (
                 Sight::ResponseWritten,
                 wrote && matches!(call, Call::Respond(_)),
             ),
+            (Sight::StormWritten, wrote && storm),
             (Sight::FrameAccepted, accepted),
             (Sight::StretchFull, wrote && full),
             (Sight::SendAnyBegun, any && !was_any),

@@ -44,7 +44,10 @@ fn each_slip_against_the_demand_is_found() {
             Slip::RefusedTickOpensAnInterval,
             "the intervals as they are shown",
         ),
-        (Slip::LinkDownTicksOpenNone, "the number of frames written"),
+        (
+            Slip::LinkDownTicksOpenNone,
+            "the intervals as they are shown",
+        ),
         (Slip::TenIntervals, "the number of frames written"),
         (
             Slip::TicksFrameInTheIntervalBefore,

@@ -6,6 +6,7 @@ use borrow.Author.Needs.{needs}
 use borrow.Author.Tests.{eq-eqb, ne-eqb}
 use denote.Ref.{now}
 use lib.ListN.{length}
+use Rattle.frame_writer.specs.Plain.{mostEvents}
 use Rattle.frame_writer.specs.Writing.{eventsOf, measuredEvents}
 use Rattle.frame_writer.proofs.Sevens.{onward, summed, counted, next-summed}
 use Rattle.frame_writer.proofs.events.measured_events.Statement.{statement}
@@ -14,9 +15,9 @@ use Rattle.frame_writer.proofs.events.measured_events.Tie as tie
 abbrev Inv-loop : tie.InvT-loop
 Inv-loop events count sum₀ i₀ sum i =
     (i ≤ count)
-    × (count ≤ 4)
+    × (count ≤ mostEvents)
     × (count * 7 ≤ length events)
-    × (sum ≤ i * 50)
+    × (sum ≤ i * 40)
     × (measuredEvents (eventsOf events) ≡ summed sum (onward events count i))
 
 abbrev μ-loop : tie.MeasureT-loop

@@ -4,7 +4,7 @@ use native.Mathlib.Omega.{arith}
 use denote.Ref.{now}
 use lib.ListN.{length, drop, length-set}
 use Rattle.text_eventlog.specs.Digits.{numberOf}
-use Rattle.text_eventlog.specs.Line.{parted, readFields}
+use Rattle.text_eventlog.specs.Line.{lastPosition, parted, readFields}
 use Rattle.text_eventlog.proofs.Fields.{left, all-left, no-more, bad-field, one-read, last-read, bad-last}
 use Rattle.text_eventlog.proofs.Parted.{last-from, next-from, rest-whole}
 use borrow.Author.Needs.{needs}
@@ -13,7 +13,7 @@ use Rattle.text_eventlog.proofs.reader.read_fields.Tie as tie
 
 abbrev Inv-loop : tie.InvT-loop
 Inv-loop text values₀ at₀ i₀ values at i =
-    (i ≤ 8) × (length values ≡ 9) × (at ≤ length text) × (readFields (parted text) ≡ left i values (parted (drop at text)))
+    (i ≤ 8) × (length values ≡ 9) × (at ≤ length text) × (readFields lastPosition (parted text) ≡ left i values (parted (drop at text)))
 
 abbrev μ-loop : tie.MeasureT-loop
 μ-loop text values₀ at₀ i₀ values at i = 8 - i

@@ -107,6 +107,23 @@ fn the_smaller_of_the_two_sizes_counts() {
     assert_eq!((answer, tried.sent.len()), (answer::ACCEPTED, 1514));
 }
 
+/// Change request (vi): sixteen symbol period events take 660 octets, "still within both
+/// ends' sizes"; "10 now starts at 17 events", and 10 comes before 12.
+#[test]
+fn sixteen_events_need_a_size_of_664_and_17_are_10_at_any() {
+    let mut tried = Tried::any(active());
+    tried.receive(&frame(DONE, "00 01 10 01 0007 00 0d 05ee a0b1c2 01020304"));
+    let events = [1, 0, 0, 0, 0, 0, 0].repeat(17);
+    let (no, yes) = (Err(answer::SIZE), Ok(660));
+    for (size, sixteen) in [(64, no), (663, no), (664, yes), (1518, yes)] {
+        tried.end.settings.size = size;
+        let notified = |events| tried.end.notify(events, &mut [0; 660]);
+        let length = notified(&events[..7 * 16]).map(|step| step.length);
+        assert_eq!(length, sixteen, "size {size}");
+        assert_eq!(notified(&events), Err(answer::VALUES), "size {size}");
+    }
+}
+
 #[test]
 fn requests_write_their_frames_and_not_what_is_owed() {
     let mut tried = Tried::any(active());

@@ -3,6 +3,7 @@
 mod limit;
 mod responding;
 mod skips;
+mod storms;
 mod windows;
 
 use crate::library::machine::{
@@ -75,6 +76,10 @@ pub enum Slip {
     UnknownReportHasNoOctet,
     HeaderBeforeState,
     OutputBeforeReport,
+    RefusesSixteenEvents,
+    TakesSeventeenEvents,
+    WritesFourEvents,
+    SizeBeforeNumberOfEvents,
     Miscounts(Miscount),
     NoneSkippedWithLinkDown,
     NoneSkippedOutsideSendAny,
@@ -131,7 +136,7 @@ pub enum Slip {
 }
 
 impl Slip {
-    pub const ALL: [Slip; 113] = [
+    pub const ALL: [Slip; 117] = [
         Slip::LosesTheLinkAt49,
         Slip::LosesTheLinkAt51,
         Slip::RefusedFrameRestartsTheCount,
@@ -188,6 +193,10 @@ impl Slip {
         Slip::UnknownReportHasNoOctet,
         Slip::HeaderBeforeState,
         Slip::OutputBeforeReport,
+        Slip::RefusesSixteenEvents,
+        Slip::TakesSeventeenEvents,
+        Slip::WritesFourEvents,
+        Slip::SizeBeforeNumberOfEvents,
         Slip::Miscounts(Miscount::KnownToo),
         Slip::Miscounts(Miscount::BehindEnd),
         Slip::Miscounts(Miscount::EndToo),
@@ -257,6 +266,14 @@ impl Slip {
         let others = |slip: &Slip| *slip != Slip::TimerSecond;
         let limit = Slip::ALL.into_iter().skip_while(others);
         limit.take_while(Slip::is_before_responses)
+    }
+
+    /// Those in the number of events that a notification takes: the ones before what a
+    /// receive shows.
+    pub fn in_storms() -> impl Iterator<Item = Slip> {
+        let others = |slip: &Slip| *slip != Slip::RefusesSixteenEvents;
+        let storms = Slip::ALL.into_iter().skip_while(others);
+        storms.take_while(|slip| *slip != Slip::Miscounts(Miscount::KnownToo))
     }
 
     /// Those in what a receive shows of TLVs that are skipped: the ones before a
@@ -419,6 +436,10 @@ impl Slipping {
             (slip, call @ Call::Respond(_)) => {
                 self.prepare_peer(end);
                 responding::prepare(slip, end, call);
+            }
+            (slip, Call::Notify(events)) => {
+                self.prepare_peer(end);
+                storms::prepare(slip, events);
             }
             (_, call) if call.is_request() => self.prepare_peer(end),
             _ => {}
@@ -603,6 +624,9 @@ impl Slipping {
                 if answer == answer::VALUES && end.discovery != Discovery::SendAny =>
             {
                 return outcome + 1;
+            }
+            (slip, Call::Notify(events)) if storms::gives_12(slip, end, events) => {
+                return outcome + 2;
             }
             (Slip::LimitBeforeSize, _) if answer == answer::SIZE && full => return outcome + 1,
             _ => {}

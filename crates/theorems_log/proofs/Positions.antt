@@ -1,0 +1,102 @@
+-- A build that takes more positions reads all that one with fewer reads, and the same of it; the one with fewer answers 14 to the
+-- rest. So old lines read as before.
+use Prim.Native.Nat.{ℕ, _-_, _^_, _≤_, _<_}
+use mathlib.Core.Path.{_≡_, refl, sym, ap, _∙_}
+use mathlib.Core.List.{List, map}
+use mathlib.Core.Bool.{Bool, true, false, cond, _&&_}
+use native.Mathlib.Omega.{arith}
+use borrow.Author.Tests.{leb-true, le-leb, lt-leb}
+use lib.Dec.{ltb, leb, eqb}
+use lib.ListN.{length, getD, take, drop}
+use Rattle.frame_tlvs.specs.Tlvs.{row}
+use Rattle.frame_writer.specs.Plain.{every, plainEvent}
+use Rattle.frame_writer.specs.Writing.{plainSeven}
+use Rattle.theorems_frame.specs.Tables.{allFound, allExpected}
+use Rattle.text.specs.Marks.{newline}
+use Rattle.text.specs.Decimal.{decimalIn}
+use Rattle.text_eventlog.specs.Digits.{valueOf, isDecimal}
+use Rattle.text_eventlog.specs.Line.{lastPosition, inRangeUpTo, lineOf, parted, lineFrom, readValues, readFields, readLineUpTo, readLine}
+use Rattle.text_eventlog.specs.Logging.{logs}
+use Rattle.text_eventlog.specs.declared.Line.{Line}
+use Rattle.text_eventlog.specs.declared.Reading.{Reading}
+use Rattle.text_eventlog.specs.declared.Reading.the-variants.{Refused, Line as LineIs}
+use Rattle.theorems_log.specs.Positions.{upTo, oldReading}
+use Rattle.theorems_log.specs.Examples.{rows}
+
+-- ---- any two last positions, in order
+
+-- what a test refuses stays refused
+refused-stays : (last : ℕ) (b : Bool) (r : Reading) → cond b (upTo last r) (Refused 14) ≡ upTo last (cond b r (Refused 14))
+refused-stays last true r = refl
+refused-stays last false r = refl
+
+-- a line that is narrowed passes one test more
+one-test-more : (last : ℕ) (b : Bool) (l : Line)
+    → upTo last (cond b (LineIs l) (Refused 14)) ≡ cond (leb (l .position) last && b) (LineIs l) (Refused 14)
+one-test-more last true l = by (leb (l .position) last)
+  where
+    by : (c : Bool) → cond c (LineIs l) (Refused 14) ≡ cond (c && true) (LineIs l) (Refused 14)
+    by true = refl
+    by false = refl
+one-test-more last false l = by (leb (l .position) last)
+  where
+    by : (c : Bool) → Refused 14 ≡ cond (c && false) (LineIs l) (Refused 14)
+    by true = refl
+    by false = refl
+
+-- of two tests of the position the narrower decides
+narrower-decides : (a b c d e : Bool) → (c ≡ true → d ≡ true) → (c && (a && ((b && d) && e))) ≡ (a && ((b && c) && e))
+narrower-decides a b true d e h = rw (h refl)
+narrower-decides false b false d e h = refl
+narrower-decides true false false d e h = refl
+narrower-decides true true false d e h = refl
+
+module _ (last later : ℕ) (h : last ≤ later) where
+  values-narrowed : (vs : List ℕ) → readValues last vs ≡ upTo last (readValues later vs)
+  unfolding readValues inRangeUpTo
+  values-narrowed vs =
+      let position = getD vs 1 0 in
+      let a = ltb (getD vs 0 0) (256 ^ 2) in
+      let e = plainSeven (drop 2 vs) in
+      let wider : leb position last ≡ true → leb position later ≡ true = λ t. le-leb position later (omega (arith, leb-true position last t)) in
+      sym
+      (one-test-more last (a && ((leb 1 position && leb position later) && e)) (lineFrom vs)
+      ∙ ap (λ (b : Bool). cond b (LineIs (lineFrom vs)) (Refused 14)) (narrower-decides a (leb 1 position) (leb position last) (leb position later) e wider))
+
+  fields-narrowed : (fs : List (List ℕ)) → readFields last fs ≡ upTo last (readFields later fs)
+  unfolding readFields
+  fields-narrowed fs =
+      rw (values-narrowed (map valueOf fs))
+      (refused-stays last (eqb (length fs) 9 && every isDecimal fs) (readValues later (map valueOf fs)))
+
+  -- every text reads as before, but for positions above the smaller of the two
+  pub narrowed : (s : List ℕ) → readLineUpTo last s ≡ upTo last (readLineUpTo later s)
+  unfolding readLineUpTo
+  narrowed s =
+      let fs = parted (take (length s - 1) s) in
+      rw (fields-narrowed fs) (refused-stays last (eqb (getD s (length s - 1) 0) newline) (readFields later fs))
+
+-- what is read of it stays
+narrowed-line : (last : ℕ) (r : Reading) (l : Line) → upTo last r ≡ LineIs l → r ≡ LineIs l
+narrowed-line last (Refused n) l e = e
+narrowed-line last (LineIs k) l e = by (leb (k .position) last) e
+  where
+    by : (b : Bool) → cond b (LineIs k) (Refused 14) ≡ LineIs l → LineIs k ≡ LineIs l
+    by true e = e
+    by false e = let z : _≡_ {A = ℕ} 0 1 = cc in absurd (omega arith)
+
+-- ---- the old build
+
+-- "Old log lines read as before"
+pub old-lines : (s : List ℕ) (l : Line) → oldReading s ≡ LineIs l → readLine s ≡ LineIs l
+old-lines s l e = narrowed-line 4 (readLine s) l (sym (narrowed 4 lastPosition (omega arith) s) ∙ e)
+
+-- "the old build answers 14 to a position above 4"
+pub old-refuses : (s : List ℕ) (l : Line) → readLine s ≡ LineIs l → 4 < l .position → oldReading s ≡ Refused 14
+old-refuses s l e h = narrowed 4 lastPosition (omega arith) s ∙ ap (upTo 4) e ∙ rw (lt-leb (l .position) 4 h)
+
+-- ---- examples
+
+pub positions-hold : allFound rows ≡ allExpected rows
+unfolding logs lineOf decimalIn inRangeUpTo plainSeven plainEvent row isDecimal readValues readFields readLineUpTo
+positions-hold = refl
