@@ -51,7 +51,7 @@ mostEvents = 16
 abbrev pub mostDescriptors : ℕ
 mostDescriptors = 32
 
--- "1 to 4 events" of the build paper, with the request's 16 for 4
+-- "1 to 4 events" of the build paper, with 16 for 4 by change request (vi)
 abbrev pub plainEvents : List Event → Bool
 plainEvents es = between 1 mostEvents (length es) && every plainEvent es
 

@@ -23,7 +23,7 @@ pub use small::organization_octets;
 pub use small::write_loopback;
 pub use small::write_organization;
 
-// The most events of a notification.
+// The most events that a notification is written with.
 pub const MOST_EVENTS: usize = 16;
 
 // A refusal's number, or the length of the frame that was written.

@@ -13,7 +13,7 @@ use Rattle.text_eventlog.specs.declared.Line.{Line}
 use Rattle.text_eventlog.specs.declared.Reading.{Reading}
 use Rattle.text_eventlog.specs.declared.Reading.the-variants.{Refused, Line as LineIs}
 
--- "Log positions run 1 to 16.": as many as a notification has events
+-- "Log positions run 1 to 16.": as many as the events that a notification is written with
 abbrev pub lastPosition : ℕ
 lastPosition = mostEvents
 

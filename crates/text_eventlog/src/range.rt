@@ -3,7 +3,7 @@ ghost use mathlib.Core.Path.{_≡_};
 ghost use Rattle.text_eventlog.specs.Line.{inRange};
 use frame_writer::MOST_EVENTS;
 
-// A notification has no event beyond this position.
+// No notification is written with an event beyond this position.
 const LAST_POSITION: u64 = MOST_EVENTS as u64;
 
 // Whether a number, a position and an event's seven numbers may stand in a line.

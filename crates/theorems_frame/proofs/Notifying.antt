@@ -1,4 +1,4 @@
--- How long a notification is: at most 660 octets, and 16 symbol period events are as long.
+-- How long a notification in plain form is: at most 660 octets, and one of 16 symbol period events has as many.
 use Prim.Native.Nat.{ℕ, _*_, _≤_}
 use mathlib.Core.Path.{_≡_, refl}
 use mathlib.Core.List.{List, [], _∷_}
@@ -12,14 +12,14 @@ use Rattle.frame_tlvs.specs.Tlvs.{row, eventLength}
 use Rattle.frame_tlvs.specs.declared.Event.{Event}
 use Rattle.frame.specs.Frame.{notification}
 use Rattle.frame_writer.specs.Encode.{headerOctets, eventOctets, encode}
-use Rattle.frame_writer.specs.Plain.{plainFlags, plainEvent, plainBody, plain, eventsLength, sized}
+use Rattle.frame_writer.specs.Plain.{plainFlags, plainEvent, mostEvents, plainBody, plain, eventsLength, sized}
 use Rattle.frame_writer.specs.Writing.{writes, messageOf, eventsOf}
 use Rattle.frame_writer.proofs.Lengths.{plain-body, length-encode}
 use Rattle.theorems_frame.specs.Tables.{allFound, allExpected}
 use Rattle.theorems_frame.specs.Notifying.{longestNotification, symbolPeriod, rows}
 use Rattle.theorems_frame.proofs.Sizes.{notification-short}
 
--- no frame of a notification is longer
+-- no notification in plain form is longer
 pub notification-length : (source flags n : ℕ) (es : List Event) → plain (messageOf source flags (notification n es)) ≡ true
     → length (encode (messageOf source flags (notification n es))) ≤ longestNotification
 notification-length source flags n es h =
@@ -42,8 +42,8 @@ symbol-periods (e ∷ es) h =
     let one = eqb-true (e .kind) 1 (search and-l) in
     rw one (omega (arith, symbol-periods es (search and-r)))
 
--- 16 of them are as long
-pub sixteen-sized : (n : ℕ) (es : List Event) → plainBody (notification n es) ≡ true → length es ≡ 16 → every symbolPeriod es ≡ true
+-- as many of them as there may be make the longest
+pub sixteen-sized : (n : ℕ) (es : List Event) → plainBody (notification n es) ≡ true → length es ≡ mostEvents → every symbolPeriod es ≡ true
     → sized (notification n es) ≡ longestNotification
 unfolding sized
 sixteen-sized n es h l s = rw h (omega (arith, symbol-periods es s))

@@ -1,4 +1,4 @@
--- How long a notification may be, and computed examples of writing one.
+-- How long a notification in plain form may be, and computed examples of writing one.
 use Prim.Native.Nat.{ℕ, zero, suc}
 use mathlib.Core.List.{List, [], _∷_}
 use mathlib.Core.Bool.{Bool}

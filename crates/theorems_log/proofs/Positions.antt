@@ -2,10 +2,10 @@
 -- rest. So old lines read as before.
 use Prim.Native.Nat.{ℕ, _-_, _^_, _≤_, _<_}
 use mathlib.Core.Path.{_≡_, refl, sym, ap, _∙_}
-use mathlib.Core.List.{List, map}
+use mathlib.Core.List.{List, _∷_, map}
 use mathlib.Core.Bool.{Bool, true, false, cond, _&&_}
 use native.Mathlib.Omega.{arith}
-use borrow.Author.Tests.{leb-true, le-leb, lt-leb}
+use borrow.Author.Tests.{leb-true, le-leb, lt-leb, lt-ltb}
 use lib.Dec.{ltb, leb, eqb}
 use lib.ListN.{length, getD, take, drop}
 use Rattle.frame_tlvs.specs.Tlvs.{row}
@@ -22,6 +22,7 @@ use Rattle.text_eventlog.specs.declared.Reading.{Reading}
 use Rattle.text_eventlog.specs.declared.Reading.the-variants.{Refused, Line as LineIs}
 use Rattle.theorems_log.specs.Positions.{upTo, oldReading}
 use Rattle.theorems_log.specs.Examples.{rows}
+use Rattle.theorems_log.proofs.Lines.{written-reads}
 
 -- ---- any two last positions, in order
 
@@ -51,32 +52,32 @@ narrower-decides false b false d e h = refl
 narrower-decides true false false d e h = refl
 narrower-decides true true false d e h = refl
 
-module _ (last later : ℕ) (h : last ≤ later) where
-  values-narrowed : (vs : List ℕ) → readValues last vs ≡ upTo last (readValues later vs)
+module _ (smaller larger : ℕ) (h : smaller ≤ larger) where
+  values-narrowed : (vs : List ℕ) → readValues smaller vs ≡ upTo smaller (readValues larger vs)
   unfolding readValues inRangeUpTo
   values-narrowed vs =
       let position = getD vs 1 0 in
       let a = ltb (getD vs 0 0) (256 ^ 2) in
       let e = plainSeven (drop 2 vs) in
-      let wider : leb position last ≡ true → leb position later ≡ true = λ t. le-leb position later (omega (arith, leb-true position last t)) in
+      let wider : leb position smaller ≡ true → leb position larger ≡ true = λ t. le-leb position larger (omega (arith, leb-true position smaller t)) in
       sym
-      (one-test-more last (a && ((leb 1 position && leb position later) && e)) (lineFrom vs)
-      ∙ ap (λ (b : Bool). cond b (LineIs (lineFrom vs)) (Refused 14)) (narrower-decides a (leb 1 position) (leb position last) (leb position later) e wider))
+      (one-test-more smaller (a && ((leb 1 position && leb position larger) && e)) (lineFrom vs)
+      ∙ ap (λ (b : Bool). cond b (LineIs (lineFrom vs)) (Refused 14)) (narrower-decides a (leb 1 position) (leb position smaller) (leb position larger) e wider))
 
-  fields-narrowed : (fs : List (List ℕ)) → readFields last fs ≡ upTo last (readFields later fs)
+  fields-narrowed : (fs : List (List ℕ)) → readFields smaller fs ≡ upTo smaller (readFields larger fs)
   unfolding readFields
   fields-narrowed fs =
       rw (values-narrowed (map valueOf fs))
-      (refused-stays last (eqb (length fs) 9 && every isDecimal fs) (readValues later (map valueOf fs)))
+      (refused-stays smaller (eqb (length fs) 9 && every isDecimal fs) (readValues larger (map valueOf fs)))
 
-  -- every text reads as before, but for positions above the smaller of the two
-  pub narrowed : (s : List ℕ) → readLineUpTo last s ≡ upTo last (readLineUpTo later s)
+  -- the reading up to the smaller is that up to the larger, with 14 for a position above the smaller
+  pub narrowed : (s : List ℕ) → readLineUpTo smaller s ≡ upTo smaller (readLineUpTo larger s)
   unfolding readLineUpTo
   narrowed s =
       let fs = parted (take (length s - 1) s) in
-      rw (fields-narrowed fs) (refused-stays last (eqb (getD s (length s - 1) 0) newline) (readFields later fs))
+      rw (fields-narrowed fs) (refused-stays smaller (eqb (getD s (length s - 1) 0) newline) (readFields larger fs))
 
--- what is read of it stays
+-- a line that is left of a reading was its line
 narrowed-line : (last : ℕ) (r : Reading) (l : Line) → upTo last r ≡ LineIs l → r ≡ LineIs l
 narrowed-line last (Refused n) l e = e
 narrowed-line last (LineIs k) l e = by (leb (k .position) last) e
@@ -90,6 +91,14 @@ narrowed-line last (LineIs k) l e = by (leb (k .position) last) e
 -- "Old log lines read as before"
 pub old-lines : (s : List ℕ) (l : Line) → oldReading s ≡ LineIs l → readLine s ≡ LineIs l
 old-lines s l e = narrowed-line 4 (readLine s) l (sym (narrowed 4 lastPosition (omega arith) s) ∙ e)
+
+-- what the old build wrote, too: the same line, of any values that were in range there
+pub old-written : (number position : ℕ) (event : List ℕ) → number < 256 ^ 2 → 1 ≤ position → position ≤ 4 → plainSeven event ≡ true
+    → readLine (lineOf number position event) ≡ LineIs (lineFrom (number ∷ position ∷ event))
+unfolding inRangeUpTo
+old-written number position event n least most seven =
+    written-reads number position event
+    (rw (lt-ltb number (256 ^ 2) n, le-leb 1 position least, le-leb position lastPosition (omega arith), seven))
 
 -- "the old build answers 14 to a position above 4"
 pub old-refuses : (s : List ℕ) (l : Line) → readLine s ≡ LineIs l → 4 < l .position → oldReading s ≡ Refused 14

@@ -12,6 +12,6 @@ abbrev pub upTo : (last : ℕ) → Reading → Reading
 upTo last (Refused n) = Refused n
 upTo last (LineIs l) = cond (leb (l .position) last) (LineIs l) (Refused 14)
 
--- "the old build answers 14 to a position above 4": what it reads
+-- "the old build answers 14 to a position above 4": what that build reads
 abbrev pub oldReading : List ℕ → Reading
 oldReading s = readLineUpTo 4 s

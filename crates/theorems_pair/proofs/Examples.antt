@@ -1,4 +1,4 @@
--- The paper's proved examples, under a single statement; and those of notifications.
+-- The paper's proved examples, under a single statement; and those of notifications by the two sizes.
 use mathlib.Core.Path.{_≡_, refl}
 use Rattle.frame_tlvs.specs.Tlvs.{row, eventLength}
 use Rattle.frame_body.specs.Variables.{descriptorStep, containerStep}
@@ -14,6 +14,6 @@ pub examples-hold : allFound rows ≡ allExpected rows
 unfolding machine descriptorStep containerStep blank ticksLater
 examples-hold = refl
 
-pub notifications-hold : allFound notifications ≡ allExpected notifications
+pub sizes-hold : allFound notifications ≡ allExpected notifications
 unfolding machine eventsOf plainEvent eventOctets eventLength row
-notifications-hold = refl
+sizes-hold = refl

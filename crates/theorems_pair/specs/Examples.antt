@@ -57,8 +57,8 @@ width octet = container (containerStep (7 ∷ 0 ∷ 2 ∷ octet ∷ replicate 12
 -- ---- an end in SEND_ANY that takes one input more
 
 -- by its own and its peer's maximum size, its lost-link count, the frames of its intervals and its revision
-abbrev sizedEnd : (own peer lost intervals revision : ℕ) → End
-sizedEnd own peer lost intervals revision =
+abbrev endOfSizes : (own peer lost intervals revision : ℕ) → End
+endOfSizes own peer lost intervals revision =
     record {
       settings = record { configuration = 5; size = own; oui = 1; vendor = 2; source = 3; required = 0 };
       link = record { up = true; lost = lost };
@@ -72,9 +72,9 @@ sizedEnd own peer lost intervals revision =
       own = record { revision = revision; number = 0; gasp = false; critical = false; owed = false };
     }
 
--- one whose both sizes are the largest
+-- one with both sizes the largest
 abbrev standing : (lost intervals revision : ℕ) → End
-standing lost intervals revision = sizedEnd 1518 1518 lost intervals revision
+standing lost intervals revision = endOfSizes 1518 1518 lost intervals revision
 
 abbrev calling : Input → End → Outcome
 calling i e = outcomeOf (record { input = i; out = replicate 60 0 }) e
@@ -141,7 +141,7 @@ rows =
 -- the answer to a request to notify of so many symbol period events, by the two maximum sizes; the output has room for the longest
 abbrev notified : (own peer count : ℕ) → ℕ
 notified own peer count =
-    outcomeOf (record { input = request (notify (eventNumbers 1 count)); out = replicate longestNotification 0 }) (sizedEnd own peer 0 0 0) .answer
+    outcomeOf (record { input = request (notify (eventNumbers 1 count)); out = replicate longestNotification 0 }) (endOfSizes own peer 0 0 0) .answer
 
 abbrev pub notifications : List (Row ℕ)
 notifications =

@@ -1,6 +1,6 @@
--- A notification beside the two maximum sizes: at 664 or more each is long enough for any, and below that 16 symbol period events
--- are answered 12.
-use Prim.Native.Nat.{ℕ, _+_, _^_, _<_, _≤_, min}
+-- A notification beside the two maximum sizes: both 664 or more are large enough for any, and where one is smaller 16 symbol period
+-- events are answered 12.
+use Prim.Native.Nat.{ℕ, _+_, _^_, _<_, _≤_}
 use mathlib.Core.Path.{_≡_}
 use mathlib.Core.List.{List}
 use mathlib.Core.Bool.{true}
@@ -10,12 +10,11 @@ use lib.ListN.{length}
 use Rattle.octets.specs.Tests.{every}
 use Rattle.octets.proofs.Bools.{not-both}
 use Rattle.frame.specs.Frame.{notification}
-use Rattle.frame_writer.specs.Plain.{plainEvents, plainBody, sized}
+use Rattle.frame_writer.specs.Plain.{mostEvents, plainEvents, plainBody}
 use Rattle.frame_writer.specs.Writing.{eventsOf}
 use Rattle.theorems_frame.specs.Notifying.{longestNotification, symbolPeriod}
 use Rattle.theorems_frame.proofs.Notifying.{notification-sized, sixteen-sized}
 use Rattle.link_limit.specs.Tests.{requestAnswer}
-use Rattle.link_peer.specs.Peers.{peerMaximum}
 use Rattle.link_end.specs.declared.End.{End}
 use Rattle.link_end.specs.Parts.{inAny}
 use Rattle.link_end.specs.Ranges.{ranged}
@@ -29,25 +28,22 @@ module _ (vs out : List ℕ) (e : End) where
   abbrev call : Call
   call = record { input = request (notify vs); out = out }
 
-  abbrev smaller : ℕ
-  smaller = min (e .settings .size) (peerMaximum (e .peer .held))
-
   -- "up to 16, still within both ends' sizes": where the smaller has room for the longest, none is answered 12, of any end
   pub sixteen-fit : longestNotification + 4 ≤ smallerMaximum e → outcomeOf call e .answer ≡ 12 → ⊥
   unfolding requestOf concludedRequest decided smallerMaximum
   sixteen-fit h =
       let a = notifying vs e in
       let octets = octetsAsked a in
-      let fits = le-leb (octets + 4) smaller (omega (arith, notification-sized (e .own .number) (eventsOf vs))) in
+      let fits = le-leb (octets + 4) (smallerMaximum e) (omega (arith, notification-sized (e .own .number) (eventsOf vs))) in
       answer-is (λ (n : ℕ). n ≡ 12 → ⊥) octets (a .permitted) (a .measured) (length out) e
       (λ z. omega arith) (λ z. omega arith) (λ z. omega arith) (λ f. not-both fits f) (λ z. omega arith) (λ z. omega arith) (λ z. omega arith)
 
-  -- where it has not, 16 symbol period events are, in SEND_ANY
-  pub sixteen-exceed : ranged e ≡ true → inAny e ≡ true → plainEvents (eventsOf vs) ≡ true → length (eventsOf vs) ≡ 16
+  -- where it has not, 16 symbol period events in plain form are, by a ranged end in SEND_ANY
+  pub sixteen-exceed : ranged e ≡ true → inAny e ≡ true → plainEvents (eventsOf vs) ≡ true → length (eventsOf vs) ≡ mostEvents
       → every symbolPeriod (eventsOf vs) ≡ true → smallerMaximum e < longestNotification + 4 → outcomeOf call e .answer ≡ 12
   unfolding requestOf concludedRequest decided answerTo requestAnswer smallerMaximum
   sixteen-exceed r any p l s h =
       let n = e .own .number in
       let number = lt-ltb n (256 ^ 2) (ranged-is e r .stands .number) in
       let plainly : plainBody (notification n (eventsOf vs)) ≡ true = rw number p in
-      rw (sixteen-sized n (eventsOf vs) plainly l s, any, lt-leb (longestNotification + 4) smaller h)
+      rw (sixteen-sized n (eventsOf vs) plainly l s, any, lt-leb (longestNotification + 4) (smallerMaximum e) h)
