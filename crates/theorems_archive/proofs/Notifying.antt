@@ -2,21 +2,17 @@
 use Prim.Native.Nat.{ℕ, _+_, _*_, _^_, _<_, _≤_}
 use mathlib.Core.Path.{_≡_, refl, sym, ap, subst, _∙_}
 use mathlib.Core.List.{List, _++_}
-use mathlib.Core.Bool.{Bool, true, not, _||_}
+use mathlib.Core.Bool.{Bool, true}
 use native.Mathlib.Omega.{arith}
 use borrow.Author.Tests.{lt-ltb}
-use lib.Dec.{ltb, leb, eqb}
+use lib.Dec.{ltb, eqb}
 use lib.ListN.{length, take, drop}
 use lib.Seq.{sets, sets-eq, take-at}
 use Rattle.octets.proofs.Bools.{by-cond, not-both}
 use Rattle.frame_writer.specs.Plain.{plainEvents, sized}
 use Rattle.frame_writer.specs.Writing.{eventsOf}
-use Rattle.link_limit.specs.Limit.{hasRoom}
-use Rattle.link_limit.specs.Tests.{fitsBoth, requestAnswer}
-use Rattle.link_peer.specs.Peers.{peerMaximum}
 use Rattle.link_end.specs.declared.End.{End}
 use Rattle.link_end.specs.declared.MaybeEnd.the-variants.{Is}
-use Rattle.link_end.specs.Parts.{inAny}
 use Rattle.link_end.specs.Ranges.{tests, ranged}
 use Rattle.link_end.specs.Granting.{answerTo, decided}
 use Rattle.link_end.proofs.Ranging.{all-at}
@@ -32,6 +28,7 @@ use Rattle.theorems_windows.proofs.Plainly.{at-most-two, arisen-plain}
 use Rattle.oam_packing.specs.Octets.{unpacked, watchIn}
 use Rattle.theorems_packing.proofs.Packing.{unpacked-beside}
 use Rattle.theorems_reach.specs.Machine.{notify, request, outcomeBy}
+use Rattle.theorems_reach.proofs.Coming.{answer-is}
 use Rattle.oam.specs.Ticking.{arisenNumbers, arisenCount, arisenRoom, countedNumbers, countedEvents, tickedBy}
 use Rattle.theorems_archive.specs.Entries.{ticks, outcomeFor, arisenFor}
 use Rattle.theorems_archive.proofs.Leaving.{ticked-counted}
@@ -61,18 +58,9 @@ seven-each (Arose e) (Arose g) = refl
 
 -- 10 is given only for values out of range
 formed-answer : (octets : ℕ) (permitted measured : Bool) (lent : ℕ) (e : End) → 0 < octets → answerTo octets permitted measured lent e ≡ 10 → ⊥
-unfolding answerTo requestAnswer
 formed-answer octets permitted measured lent e h =
-    let P : ℕ → Type 0 = λ (n : ℕ). n ≡ 10 → ⊥ in
-    by-cond P (ltb 0 octets)
-    (λ _. by-cond P (inAny e)
-    (λ _. by-cond P permitted
-    (λ _. by-cond P (not measured || fitsBoth octets (e .settings .size) (peerMaximum (e .peer .held)))
-    (λ _. by-cond P (hasRoom (e .meter)) (λ _. by-cond P (leb octets lent) (λ _. omega arith) (λ _. omega arith)) (λ _. omega arith))
-    (λ _. omega arith))
-    (λ _. omega arith))
-    (λ _. omega arith))
-    (λ f. not-both (lt-ltb 0 octets h) f)
+    answer-is (λ (n : ℕ). n ≡ 10 → ⊥) octets permitted measured lent e
+    (λ f. not-both (lt-ltb 0 octets h) f) (λ z. omega arith) (λ z. omega arith) (λ _ z. omega arith) (λ z. omega arith) (λ z. omega arith) (λ z. omega arith)
 
 -- a notification of plain events is in range, by an end that is
 plain-octets : (vs : List ℕ) (e : End) → ranged e ≡ true → plainEvents (eventsOf vs) ≡ true → 0 < octetsAsked (notifying vs e)

@@ -68,7 +68,7 @@ module _ (number position : ℕ) (event : List ℕ) (h : inRange number position
 -- ---- a line that reads is the one line that is written for its values
 
 -- what does not say 14 passed the test
-passed : (b : Bool) (r : Reading) (l : Line) → cond b r (Refused 14) ≡ LineIs l → (b ≡ true) × (r ≡ LineIs l)
+pub passed : (b : Bool) (r : Reading) (l : Line) → cond b r (Refused 14) ≡ LineIs l → (b ≡ true) × (r ≡ LineIs l)
 passed true r l e = (refl, e)
 passed false r l e = let z : _≡_ {A = ℕ} 0 1 = cc in absurd (omega arith)
 

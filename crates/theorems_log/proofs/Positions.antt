@@ -3,7 +3,7 @@
 use Prim.Native.Nat.{ℕ, _-_, _^_, _≤_, _<_}
 use mathlib.Core.Path.{_≡_, refl, sym, ap, _∙_}
 use mathlib.Core.List.{List, _∷_, map}
-use mathlib.Core.Bool.{Bool, true, false, cond, _&&_}
+use mathlib.Core.Bool.{Bool, true, false, cond, _&&_, and-true, and-false}
 use native.Mathlib.Omega.{arith}
 use borrow.Author.Tests.{leb-true, le-leb, lt-leb, lt-ltb}
 use lib.Dec.{ltb, leb, eqb}
@@ -22,7 +22,7 @@ use Rattle.text_eventlog.specs.declared.Reading.{Reading}
 use Rattle.text_eventlog.specs.declared.Reading.the-variants.{Refused, Line as LineIs}
 use Rattle.theorems_log.specs.Positions.{upTo, oldReading}
 use Rattle.theorems_log.specs.Examples.{rows}
-use Rattle.theorems_log.proofs.Lines.{written-reads}
+use Rattle.theorems_log.proofs.Lines.{passed, written-reads}
 
 -- ---- any two last positions, in order
 
@@ -34,16 +34,8 @@ refused-stays last false r = refl
 -- a line that is narrowed passes one test more
 one-test-more : (last : ℕ) (b : Bool) (l : Line)
     → upTo last (cond b (LineIs l) (Refused 14)) ≡ cond (leb (l .position) last && b) (LineIs l) (Refused 14)
-one-test-more last true l = by (leb (l .position) last)
-  where
-    by : (c : Bool) → cond c (LineIs l) (Refused 14) ≡ cond (c && true) (LineIs l) (Refused 14)
-    by true = refl
-    by false = refl
-one-test-more last false l = by (leb (l .position) last)
-  where
-    by : (c : Bool) → Refused 14 ≡ cond (c && false) (LineIs l) (Refused 14)
-    by true = refl
-    by false = refl
+one-test-more last true l = rw (and-true (leb (l .position) last))
+one-test-more last false l = rw (and-false (leb (l .position) last))
 
 -- of two tests of the position the narrower decides
 narrower-decides : (a b c d e : Bool) → (c ≡ true → d ≡ true) → (c && (a && ((b && d) && e))) ≡ (a && ((b && c) && e))
@@ -80,11 +72,7 @@ module _ (smaller larger : ℕ) (h : smaller ≤ larger) where
 -- a line that is left of a reading was its line
 narrowed-line : (last : ℕ) (r : Reading) (l : Line) → upTo last r ≡ LineIs l → r ≡ LineIs l
 narrowed-line last (Refused n) l e = e
-narrowed-line last (LineIs k) l e = by (leb (k .position) last) e
-  where
-    by : (b : Bool) → cond b (LineIs k) (Refused 14) ≡ LineIs l → LineIs k ≡ LineIs l
-    by true e = e
-    by false e = let z : _≡_ {A = ℕ} 0 1 = cc in absurd (omega arith)
+narrowed-line last (LineIs k) l e = passed (leb (k .position) last) (LineIs k) l e .1
 
 -- ---- the old build
 

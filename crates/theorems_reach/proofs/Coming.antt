@@ -2,9 +2,9 @@
 -- that makes something of the end, says what is owed, and writes an owed frame where it may; or it is a request that is
 -- granted. What is shown of calls elsewhere is shown for each of the three.
 use Prim.Native.Nat.{ℕ, _≤_}
-use mathlib.Core.Path.{_≡_, refl, sym}
+use mathlib.Core.Path.{_≡_, refl}
 use mathlib.Core.List.{List}
-use mathlib.Core.Bool.{Bool, true, false, not, _||_}
+use mathlib.Core.Bool.{Bool, false, not, _||_}
 use native.Mathlib.Omega.{arith}
 use borrow.Author.Tests.{ltb-false, eqb-true, eqb-false}
 use lib.ListN.{length}
@@ -33,7 +33,7 @@ use Rattle.link.specs.Hearing.{concludedHeard, concludedHeardOutput, receiveOf,
 use Rattle.link_end.specs.Granting.{answerTo, granted, decided}
 use Rattle.link.specs.Requests.{Asked, octetsAsked, requestToSend, concludedRequest, concludedRequestOutput, requestOf, requestOutput}
 use Rattle.theorems_reach.specs.Machine.{Request, Input, tick, report, receive, request as asking, Call, askedOf, outcomeOf, outputOf}
-use Rattle.octets.proofs.Bools.{by-cond, never, whether}
+use Rattle.octets.proofs.Bools.{by-cond, whether}
 
 -- ---- what a tick, a report or an accepted frame makes of an end, before what is owed is said
 
@@ -79,9 +79,10 @@ pub data Comes (c : Call) (e : End) : Type 0 where
 -- ---- each call
 
 -- "Requests: 10, 11, 15, 12, 13, 9."
--- what is so of each is so of the answer, and 12 is given only where the frame is measured and exceeds a size
+-- what is so of each is so of the answer, and 10 is given only for values out of range, 12 only where the frame is measured and
+-- exceeds a size
 pub answer-is : (P : ℕ → Type 0) (octets : ℕ) (permitted measured : Bool) (lent : ℕ) (e : End)
-    → P 10 → P 11 → P 15 → ((not measured || fitsBoth octets (e .settings .size) (peerMaximum (e .peer .held))) ≡ false → P 12)
+    → (ltb 0 octets ≡ false → P 10) → P 11 → P 15 → ((not measured || fitsBoth octets (e .settings .size) (peerMaximum (e .peer .held))) ≡ false → P 12)
     → P 13 → P 9 → P 0 → P (answerTo octets permitted measured lent e)
 unfolding answerTo requestAnswer
 answer-is P octets permitted measured lent e ten eleven fifteen twelve thirteen nine none =
@@ -96,12 +97,12 @@ answer-is P octets permitted measured lent e ten eleven fifteen twelve thirteen 
     twelve)
     (λ _. fifteen))
     (λ _. eleven))
-    (λ _. ten)
+    ten
 
 answer-known : (a : Asked) (lent : ℕ) (e : End) → answerTo (octetsAsked a) (a .permitted) (a .measured) lent e ≤ 15
 answer-known a lent e =
     answer-is (λ (n : ℕ). n ≤ 15) (octetsAsked a) (a .permitted) (a .measured) lent e
-    (omega arith) (omega arith) (omega arith) (λ _. omega arith) (omega arith) (omega arith) (omega arith)
+    (λ _. omega arith) (omega arith) (omega arith) (λ _. omega arith) (omega arith) (omega arith) (omega arith)
 
 -- "Receive, tick and report test 9 first, against 60 octets."
 short : (c : Call) (e : End) → outcomeOf c e ≡ outcome e 9 0 Nothing → outputOf c e ≡ c .out → Comes c e

@@ -36,7 +36,7 @@ module _ (vs out : List ℕ) (e : End) where
       let octets = octetsAsked a in
       let fits = le-leb (octets + 4) (smallerMaximum e) (omega (arith, notification-sized (e .own .number) (eventsOf vs))) in
       answer-is (λ (n : ℕ). n ≡ 12 → ⊥) octets (a .permitted) (a .measured) (length out) e
-      (λ z. omega arith) (λ z. omega arith) (λ z. omega arith) (λ f. not-both fits f) (λ z. omega arith) (λ z. omega arith) (λ z. omega arith)
+      (λ _ z. omega arith) (λ z. omega arith) (λ z. omega arith) (λ f. not-both fits f) (λ z. omega arith) (λ z. omega arith) (λ z. omega arith)
 
   -- where it has not, 16 symbol period events in plain form are, by a ranged end in SEND_ANY
   pub sixteen-exceed : ranged e ≡ true → inAny e ≡ true → plainEvents (eventsOf vs) ≡ true → length (eventsOf vs) ≡ mostEvents

@@ -31,7 +31,7 @@ module _ (ns vs ds out : List ℕ) (e : End) where
   respond-12 =
       let a = responding ns vs ds e in
       answer-is (λ (n : ℕ). n ≡ 12 → ⊥) (octetsAsked a) (a .permitted) (a .measured) (length out) e
-      (λ z. omega arith) (λ z. omega arith) (λ z. omega arith) (λ f. never (sym f)) (λ z. omega arith) (λ z. omega arith) (λ z. omega arith)
+      (λ _ z. omega arith) (λ z. omega arith) (λ z. omega arith) (λ f. never (sym f)) (λ z. omega arith) (λ z. omega arith) (λ z. omega arith)
 
   module _ (r : ranged e ≡ true) (z : outcomeOf call e .answer ≡ 0) where
     by-comes : Comes call e → Writes call e

@@ -204,9 +204,10 @@ impl LineFault {
 const BEHIND_LAST: u64 = PLAIN_EVENTS as u64 + 1;
 
 fn position_beyond(random: &mut Random) -> u64 {
-    match random.one_in(2) {
-        true => BEHIND_LAST + random.below(20) as u64,
-        false => beyond(random, 8, 64),
+    if random.one_in(2) {
+        BEHIND_LAST + random.below(20) as u64
+    } else {
+        beyond(random, 8, 64)
     }
 }
 

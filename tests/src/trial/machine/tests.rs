@@ -49,7 +49,7 @@ fn every_answer_of_the_machine_must_come() {
 #[test]
 fn each_slip_is_found() {
     for slip in Slip::ALL {
-        assert!(differs(slip, 120_000), "{slip:?}");
+        assert!(differs(slip, 60_000), "{slip:?}");
     }
 }
 

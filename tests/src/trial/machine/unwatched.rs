@@ -132,13 +132,17 @@ impl Unwatched {
         }
     }
 
-    /// Gives the watch that a script has left two of the faults.
+    /// Gives the watch that a script has left two of the faults: between two seconds, which
+    /// is seldom, the one that it can have only there.
     pub fn try_some(&mut self, random: &mut Random, played: &Played) -> Result<(), String> {
         let phase = played.bout.paper().watch.numbers().phase();
         let alone = |fault: &WatchFault| fault.is_alone_at(phase);
         let possible: Vec<WatchFault> = WatchFault::ALL.into_iter().filter(alone).collect();
-        for _ in 0..2 {
-            let fault = random.pick(&possible);
+        let first = match phase {
+            0 => WatchFault::BadBetweenSeconds,
+            _ => random.pick(&possible),
+        };
+        for fault in [first, random.pick(&possible)] {
             self.try_one(random, played, fault)?;
         }
         Ok(())
