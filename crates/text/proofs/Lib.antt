@@ -2,3 +2,4 @@
 pub mod Bounds
 pub mod Decimals
 pub mod Puts
+pub mod Stages

@@ -1,8 +1,8 @@
 -- The two ways in which a writer of text keeps its promise, what the promise comes to where the text fits, and two texts one
 -- after the other.
 use Prim.Native.Nat.{ℕ, _+_, _≤_, _<_}
-use mathlib.Core.Path.{_≡_, ap, _∙_}
-use mathlib.Core.List.{List, _++_}
+use mathlib.Core.Path.{_≡_, refl, ap, _∙_}
+use mathlib.Core.List.{List, [], _++_}
 use native.Mathlib.Omega.{arith}
 use borrow.Author.Tests.{le-leb, lt-leb}
 use lib.ListN.{length, length-append}
@@ -35,6 +35,10 @@ module _ (text entry : List ℕ) (at : ℕ) where
       by-bound (length entry) (at + length text)
       (λ short. let same : r ≡ at = p .next ∙ simp (lt-leb (at + length text) (length entry) short) in omega arith)
       (λ room. omega (arith, fitting p room .next))
+
+-- nothing is stored, whether there is room or not
+pub nothing : (entry : List ℕ) (at : ℕ) → Put [] entry at at entry
+nothing entry at = by-bound (length entry) (at + 0) (refused [] entry at) (λ h. stored [] entry at h (omega arith) refl)
 
 -- one text leaves room for another after it, where both fit
 pub room-after : {a entry middle : List ℕ} {at r : ℕ} (b : List ℕ) → Placed a entry at r middle → at + length (a ++ b) ≤ length entry → r + length b ≤ length middle

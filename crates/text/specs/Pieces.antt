@@ -5,6 +5,7 @@ use mathlib.Core.List.{List, [], _∷_, _++_}
 use mathlib.Core.Bool.{cond}
 use lib.Dec.{ltb}
 use lib.ListN.{length, take, drop}
+use lib.Seq.{sets}
 
 -- The step at a character: the state after it, what is said there, and the room that is wanted before it is taken. At the
 -- input's end there may be something left to say.
@@ -33,6 +34,31 @@ fedFrom r room o (c ∷ rest) =
 unfoldable pub toSay : {S : Type 0} → Steps S → S → List ℕ → List ℕ
 toSay r s [] = r .last s
 toSay r s (c ∷ rest) = r .says s c ++ toSay r (r .next s c) rest
+
+-- ---- a call with a lent output
+
+-- A stage of a call: the state, the characters of the piece that are taken, the octets that wait in the output to be written,
+-- and the output.
+pub record Stage (S : Type 0) : Type 0 where
+  pub state : S
+  pub taken : ℕ
+  pub waiting : ℕ
+  pub output : List ℕ
+
+-- what is said is stored after what waits
+abbrev pub stageAfter : {S : Type 0} → Stage S → Fed S → Stage S
+stageAfter a o = record {
+  state = o .state;
+  taken = o .taken;
+  waiting = a .waiting + length (o .said);
+  output = sets (a .output) (a .waiting) (o .said);
+}
+
+-- the last stage of a call, from any other: the characters in order, with the room that the output has from what waits on
+unfoldable pub goneOn : {S : Type 0} → Steps S → List ℕ → Stage S → Stage S
+goneOn r piece a =
+    stageAfter a
+    (fedFrom r (length (a .output) - a .waiting) (record { state = a .state; taken = a .taken; said = [] }) (drop (a .taken) piece))
 
 -- ---- calls one after the other
 

@@ -74,7 +74,11 @@ decodedOf Foreign = NotHexadecimal
 abbrev pub tooMany : ℕ → ℕ
 tooMany n = cond (leb n longestFrame) 9 1
 
+-- the entry of the first so many octets of a working frame
+abbrev pub lengthEntry : List ℕ → ℕ → Entry
+lengthEntry f n = cond (leb n (held f)) (entryOf (decode (take n f))) (Refused (tooMany n))
+
 -- the entry of what a line comes to
 abbrev pub decodedEntry : List ℕ → Decoded → Entry
-decodedEntry f (Length n) = cond (leb n (held f)) (entryOf (decode (take n f))) (Refused (tooMany n))
+decodedEntry f (Length n) = lengthEntry f n
 decodedEntry f NotHexadecimal = Refused 14

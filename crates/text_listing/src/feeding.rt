@@ -1,6 +1,6 @@
 // Feeding an input in pieces: the lines' rows as far as there is room for them.
 ghost use mathlib.Core.Path.{_≡_};
-ghost use Rattle.text_listing.specs.Taking.{tooMany, decodedEntry};
+ghost use Rattle.text_listing.specs.Taking.{tooMany, lengthEntry};
 ghost use Rattle.text_listing.specs.Feeding.{begun, Feeds, Finishes};
 use crate::line::Decoded;
 use crate::line::Line;
@@ -54,9 +54,9 @@ fn too_many(length: usize) -> u8
     1
 }
 
-// The entry of a line of so many octets. Where the working frame does not hold them, none of it is read.
-fn length_entry(frame: &[u8], length: usize) -> Entry
-    ensures { λ r. ⌜ r ≡ decodedEntry (now (frame .entry)) (Decoded.Length length) ⌝ }
+// The entry of a line or a record of so many octets. Where the working frame does not hold them, none of it is read.
+pub fn length_entry(frame: &[u8], length: usize) -> Entry
+    ensures { λ r. ⌜ r ≡ lengthEntry (now (frame .entry)) length ⌝ }
 {
     if length <= held(frame) {
         return frame_entry(&frame[..length]);
