@@ -110,7 +110,7 @@ taken-in (a ∷ b ∷ text) n f =
 -- ---- the octets of a whole line, by whether the frame holds them
 
 -- "received frame is not 60 to 1,514 octets"
-too-long : (f : List ℕ) → 1514 < length f → decode f ≡ refused 1
+pub too-long : (f : List ℕ) → 1514 < length f → decode f ≡ refused 1
 unfolding decode headerAnswer
 too-long f h = simp (le-ltb (length f) 60 (omega arith), lt-ltb 1514 (length f) h)
 

@@ -1,0 +1,134 @@
+-- A file lists as the records that it was written of, in either byte order.
+use Prim.Native.Nat.{ℕ, zero, suc, _+_, _*_, _/_, _%_, _^_, _≤_, _<_}
+use mathlib.Core.Path.{_≡_, refl, sym, ap, _∙_}
+use mathlib.Core.Bool.{Bool, true, false, cond}
+use mathlib.Core.List.{List, [], _∷_, _++_, append-nil, append-assoc}
+use native.Mathlib.Nat.{pow-suc, add-zero}
+use native.Mathlib.Omega.{arith}
+use borrow.Author.Tests.{le-leb, eq-eqb}
+use lib.ListN.{length, getD, take, drop, length-append}
+use lib.Seq.{take-at, drop-at, getD-drop, drop-append-le}
+use Rattle.octets.specs.Octets.{num, oct}
+use Rattle.octets.proofs.Numbers.{past, number-read, length-oct}
+use Rattle.text_listing.specs.Rows.{header}
+use Rattle.text_listing.specs.declared.row.Entry.{Entry}
+use Rattle.text_captures.specs.Captures.{numLittle, number, magic, ethernet, isLittle, isCapture, storedOf, originalOf, recordSize, isWhole, recordEntry, entries, numbered, captureListing}
+use Rattle.theorems_captures.specs.Files.{octLittle, fourOctets, Captured, Formed, AllFormed, recordOctets, allOctets, fileOf, entryFor, entriesFor}
+use Rattle.theorems_captures.specs.Records.{IsRecord}
+use Rattle.theorems_captures.proofs.Records.{record-before, no-entry}
+
+-- ---- numbers
+
+length-little : (w v : ℕ) → length (octLittle w v) ≡ w
+length-little zero v = refl
+length-little (suc w) v = omega (arith, length-little w (v / 256))
+
+length-four : (little : Bool) (v : ℕ) → length (fourOctets little v) ≡ 4
+unfolding fourOctets
+length-four true v = length-little 4 v
+length-four false v = length-oct 4 v
+
+longer-by-four : (little : Bool) (v : ℕ) (y : List ℕ) → length (fourOctets little v ++ y) ≡ 4 + length y
+longer-by-four little v y = omega (arith, length-append (fourOctets little v) y, length-four little v)
+
+-- where four octets of a number stand, it is read
+little-read : (v : ℕ) (s : List ℕ) (at : ℕ) (y : List ℕ) → v < 2 ^ 32 → drop at s ≡ octLittle 4 v ++ y → numLittle 4 s at ≡ v
+little-read v s at y h e =
+    let octet : (i : ℕ) → getD s (at + i) 0 ≡ getD (octLittle 4 v ++ y) i 0 = λ i. sym (getD-drop at s i 0) ∙ ap (λ (l : List ℕ). getD l i 0) e in
+    rw (octet 0, octet 1, octet 2, octet 3) (omega arith)
+
+four-read : (little : Bool) (v : ℕ) (s : List ℕ) (at : ℕ) (y : List ℕ) → v < 2 ^ 32 → drop at s ≡ fourOctets little v ++ y → number little s at ≡ v
+unfolding fourOctets number
+four-read true v s at y h e = little-read v s at y h e
+four-read false v s at y h e = number-read 4 v s at y h e
+
+-- ---- a record
+
+module _ (little : Bool) (r : Captured) (formed : Formed r) where
+  abbrev s : List ℕ
+  s = recordOctets little r
+
+  abbrev four : ℕ → List ℕ
+  four v = fourOctets little v
+
+  -- its lengths, and its octets
+  at-4 : drop 4 s ≡ four (r .fraction) ++ (four (length (r .octets)) ++ (four (r .original) ++ r .octets))
+  at-4 = past s 0 4 (four (r .seconds)) _ (length-four little (r .seconds)) refl
+
+  at-8 : drop 8 s ≡ four (length (r .octets)) ++ (four (r .original) ++ r .octets)
+  at-8 = past s 4 4 (four (r .fraction)) _ (length-four little (r .fraction)) at-4
+
+  at-12 : drop 12 s ≡ four (r .original) ++ r .octets
+  at-12 = past s 8 4 (four (length (r .octets))) _ (length-four little (length (r .octets))) at-8
+
+  at-16 : drop 16 s ≡ r .octets
+  at-16 = past s 12 4 (four (r .original)) _ (length-four little (r .original)) at-12
+
+  stored-read : storedOf little s ≡ length (r .octets)
+  stored-read = four-read little (length (r .octets)) s 8 _ (formed .0) at-8
+
+  original-read : originalOf little s ≡ r .original
+  original-read = four-read little (r .original) s 12 _ (formed .1) at-12
+
+  size : length s ≡ 16 + length (r .octets)
+  size =
+      let two = four (length (r .octets)) ++ (four (r .original) ++ r .octets) in
+      omega (
+        arith,
+        longer-by-four little (r .seconds) (four (r .fraction) ++ two),
+        longer-by-four little (r .fraction) two,
+        longer-by-four little (length (r .octets)) (four (r .original) ++ r .octets),
+        longer-by-four little (r .original) (r .octets),
+      )
+
+  pub is-record : IsRecord little s
+  unfolding isWhole
+  is-record = (rw (le-leb 16 (length s) (omega (arith, size)), le-leb (recordSize little s) (length s) (omega (arith, size, stored-read))), size ∙ rw stored-read)
+
+  pub entry-read : recordEntry little s ≡ entryFor r
+  unfolding recordEntry
+  entry-read =
+      let octets : take (length (r .octets)) (r .octets) ≡ r .octets = ap (take (length (r .octets))) (sym (append-nil (r .octets))) ∙ take-at (r .octets) [] (length (r .octets)) refl in
+      rw (stored-read, original-read, at-16, octets)
+
+pub all-read : (little : Bool) (rs : List Captured) → AllFormed rs → entries little (allOctets little rs) ≡ entriesFor rs
+all-read little [] formed = no-entry little
+all-read little (r ∷ rs) formed =
+    record-before little (recordOctets little r) (allOctets little rs) (is-record little r (formed .0)) ∙ rw (entry-read little r (formed .0), all-read little rs (formed .1))
+
+-- ---- a file
+
+-- by its magic number a file tells its byte order
+told : (little : Bool) (y : List ℕ) → isLittle (fourOctets little magic ++ y) ≡ little
+unfolding isLittle number fourOctets
+told true y = refl
+told false y = refl
+
+module _ (little : Bool) (between : List ℕ) (rs : List Captured) (unread : length between ≡ 16) where
+  abbrev file : List ℕ
+  file = fileOf little between rs
+
+  after-between : drop 20 file ≡ fourOctets little ethernet ++ allOctets little rs
+  after-between = past file 4 16 between _ unread (past file 0 4 (fourOctets little magic) _ (length-four little magic) refl)
+
+  after-header : drop 24 file ≡ allOctets little rs
+  after-header = past file 20 4 (fourOctets little ethernet) _ (length-four little ethernet) after-between
+
+  is-capture : isCapture file ≡ true
+  unfolding isCapture
+  is-capture =
+      let linked = fourOctets little ethernet ++ allOctets little rs in
+      let long : 24 ≤ length file = omega (arith, longer-by-four little magic (between ++ linked), length-append between linked, longer-by-four little ethernet (allOctets little rs)) in
+      let magic-read = four-read little magic file 0 _ (omega arith) refl in
+      let type-read = four-read little ethernet file 20 _ (omega arith) after-between in
+      rw (le-leb 24 (length file) long, told little (between ++ linked), magic-read, type-read)
+
+  -- what was written is listed
+  pub file-listed : AllFormed rs → captureListing file ≡ header ++ numbered 1 (entriesFor rs)
+  unfolding captureListing
+  file-listed formed = rw (is-capture, told little (between ++ (fourOctets little ethernet ++ allOctets little rs)), after-header, all-read little rs formed)
+
+-- the same records in the other byte order give the same listing
+pub either-order : (between between' : List ℕ) (rs : List Captured) → length between ≡ 16 → length between' ≡ 16 → AllFormed rs
+    → captureListing (fileOf true between rs) ≡ captureListing (fileOf false between' rs)
+either-order between between' rs unread unread' formed = file-listed true between rs unread formed ∙ sym (file-listed false between' rs unread' formed)

@@ -1,0 +1,4 @@
+-- What the theorems are said with.
+pub mod Runs
+pub mod Records
+pub mod Files
