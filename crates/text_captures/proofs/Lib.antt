@@ -1,4 +1,4 @@
--- The laws of text_captures: Orders has the numbers, Steps how a call goes on.
-pub mod Orders
-pub mod Steps
-pub mod Rows
+-- Orders has the numbers, Steps how a call goes on, Rows that there is room for what is said, and the end.
+mod Orders
+mod Steps
+mod Rows

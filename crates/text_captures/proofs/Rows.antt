@@ -1,8 +1,7 @@
 -- There is room for any row that is said.
 use Prim.Native.Nat.{ℕ, _≤_, _<_}
 use mathlib.Core.Path.{_≡_, refl, ap, _∙_}
-use mathlib.Core.Bool.{Bool, true, false, cond}
-use mathlib.Core.List.{List, []}
+use mathlib.Core.List.{List}
 use native.Mathlib.Omega.{arith}
 use borrow.Author.Tests.{lt-ltb, le-ltb}
 use mir.Val.{Val}
@@ -14,7 +13,6 @@ use Rattle.text.specs.Put.{Put}
 use Rattle.text.proofs.Puts.{fitting}
 use Rattle.text_listing.specs.Rows.{rowOf, rowRoom}
 use Rattle.text_listing.specs.declared.row.Entry.{Entry}
-use Rattle.text_listing.specs.declared.row.Entry.the-variants.{Refused}
 use Rattle.text_listing.specs.declared.feeding.Finished.the-variants.{Written, Refused as NoRoom}
 use Rattle.text_listing.proofs.Lengths.{refused-within, row-within}
 use Rattle.text_captures.specs.declared.progress.Awaited.{Awaited}
@@ -38,13 +36,9 @@ last-within n Nothing filled = omega arith
 
 -- ---- the three ways in which the end keeps its promise
 
-unchanged : (b : Bool) (out : List ℕ) → out ≡ cond b out out
-unchanged true out = refl
-unchanged false out = refl
-
 module _ (p : Progress) (out : List ℕ) where
   pub finishes-none : lastOf p ≡ NoRow → Finishes p out (Written 0) out
-  finishes-none none = record { result = rw none; output = rw none (unchanged (ltb (length out) rowRoom) out); fits = omega arith }
+  finishes-none none = record { result = rw none; output = rw none (by-cond (λ (x : List ℕ). out ≡ x) (ltb (length out) rowRoom) (λ _. refl) (λ _. refl)); fits = omega arith }
 
   module _ (entry : Entry) (row : lastOf p ≡ Row entry) where
     pub finishes-short : length out < rowRoom → Finishes p out (NoRoom 9) out

@@ -2,19 +2,18 @@
 use Prim.Native.Nat.{ℕ, _+_, _-_, _*_, _≤_, _<_}
 use mathlib.Core.Path.{_≡_, refl, sym, ap, _∙_}
 use mathlib.Core.Bool.{false, true≢false}
-use mathlib.Core.List.{List, _∷_, append-nil}
+use mathlib.Core.List.{List, append-nil}
 use native.Mathlib.Nat.{mod-eq-of-lt}
-use native.Mathlib.Numerals.{add-one}
 use native.Mathlib.Omega.{arith}
 use borrow.Author.Tests.{ne-eqb, le-leb, lt-ltb, le-ltb}
-use lib.ListN.{length, drop, getD, set}
-use lib.Seq.{drop-cons}
+use lib.ListN.{length, getD, set}
 use Rattle.text_listing.specs.declared.line.Line.{Line}
 use Rattle.text_listing.specs.declared.line.Scanned.{Scanned}
 use Rattle.text_listing.specs.declared.line.Line.the-variants.{Whole, Half}
 use Rattle.text.specs.Marks.{newline}
 use Rattle.text_listing.specs.Lines.{isDigit}
 use Rattle.text.specs.Pieces.{fedFrom}
+use Rattle.text.proofs.Stages.{next-cell}
 use Rattle.text_listing.specs.Taking.{valueOf, held, lineWith, frameWith}
 use Rattle.text_listing.specs.Feeding.{Leads, Scans}
 use Rattle.text_listing.proofs.Digits.{digit}
@@ -28,10 +27,6 @@ scans-then p q =
       within = q .within;
       leads = λ room number said. p .leads room number said ∙ q .leads room number said;
     }
-
--- what stands at a place, and what follows
-pub next-cell : (piece : List ℕ) (at : ℕ) → at < length piece → drop at piece ≡ getD piece at 0 ∷ drop (at + 1) piece
-next-cell piece at h = rw (add-one at) (drop-cons piece at 0 h)
 
 -- a character that ends no line
 pub one-taken : (piece : List ℕ) (line : Line) (f : List ℕ) (at : ℕ) → at < length piece → (getD piece at 0 ≡ newline → ⊥)

@@ -8,6 +8,7 @@ use lib.ListN.{length, drop, getD, length-append, drop-of-length-le}
 use lib.Seq.{sets, length-sets}
 use Rattle.text.specs.Put.{Stored}
 use Rattle.text.specs.Pieces.{Fed, fedFrom, takes}
+use Rattle.text.proofs.Stages.{next-cell}
 use Rattle.octets.proofs.Stores.{sets-append}
 use Rattle.text_listing.specs.declared.line.Line.{Line}
 use Rattle.text_listing.specs.declared.line.Scanned.{Scanned}
@@ -18,7 +19,6 @@ use Rattle.text_listing.specs.Rows.{rowOf, rowRoom}
 use Rattle.text_listing.specs.Listing.{following}
 use Rattle.text_listing.specs.Taking.{fresh, decodedOf, decodedEntry}
 use Rattle.text_listing.specs.Feeding.{State, lister, fed, placeAfter, Feeds, reached, Scans}
-use Rattle.text_listing.proofs.Leading.{next-cell}
 
 -- ---- what a call comes to at a newline, and at the end
 

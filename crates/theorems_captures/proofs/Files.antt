@@ -1,17 +1,14 @@
 -- A file lists as the records that it was written of, in either byte order.
-use Prim.Native.Nat.{ℕ, zero, suc, _+_, _*_, _/_, _%_, _^_, _≤_, _<_}
+use Prim.Native.Nat.{ℕ, zero, suc, _+_, _/_, _^_, _≤_, _<_}
 use mathlib.Core.Path.{_≡_, refl, sym, ap, _∙_}
-use mathlib.Core.Bool.{Bool, true, false, cond}
-use mathlib.Core.List.{List, [], _∷_, _++_, append-nil, append-assoc}
-use native.Mathlib.Nat.{pow-suc, add-zero}
+use mathlib.Core.Bool.{Bool, true, false}
+use mathlib.Core.List.{List, [], _∷_, _++_, append-nil}
 use native.Mathlib.Omega.{arith}
-use borrow.Author.Tests.{le-leb, eq-eqb}
+use borrow.Author.Tests.{le-leb}
 use lib.ListN.{length, getD, take, drop, length-append}
-use lib.Seq.{take-at, drop-at, getD-drop, drop-append-le}
-use Rattle.octets.specs.Octets.{num, oct}
+use lib.Seq.{take-at, getD-drop}
 use Rattle.octets.proofs.Numbers.{past, number-read, length-oct}
 use Rattle.text_listing.specs.Rows.{header}
-use Rattle.text_listing.specs.declared.row.Entry.{Entry}
 use Rattle.text_captures.specs.Captures.{numLittle, number, magic, ethernet, isLittle, isCapture, storedOf, originalOf, recordSize, isWhole, recordEntry, entries, numbered, captureListing}
 use Rattle.theorems_captures.specs.Files.{octLittle, fourOctets, Captured, Formed, AllFormed, recordOctets, allOctets, fileOf, entryFor, entriesFor}
 use Rattle.theorems_captures.specs.Records.{IsRecord}

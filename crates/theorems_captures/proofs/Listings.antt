@@ -5,8 +5,8 @@ use mathlib.Core.Path.{_≡_, refl, sym, ap, _∙_}
 use mathlib.Core.Bool.{Bool, true, false, cond}
 use mathlib.Core.List.{List, [], _∷_, _++_, append-nil}
 use native.Mathlib.Omega.{arith}
-use borrow.Author.Tests.{eq-eqb, ne-eqb, lt-ltb, le-ltb, le-leb, lt-leb}
-use lib.Dec.{ltb, leb, eqb}
+use borrow.Author.Tests.{ne-eqb, le-ltb, le-leb, lt-leb}
+use lib.Dec.{eqb}
 use lib.ListN.{length, take, drop, length-drop}
 use lib.Seq.{sets, sets-eq, length-sets, take-at, length-take-le, drop-drop}
 use Rattle.octets.proofs.Bools.{whether}
@@ -15,16 +15,15 @@ use Rattle.text.specs.Pieces.{Call, toSay, Within, Able}
 use Rattle.text.proofs.Bounds.{by-bound}
 use Rattle.text_listing.specs.Rows.{entryOf, rowOf, rowRoom, header}
 use Rattle.text_listing.specs.Listing.{following}
-use Rattle.text_listing.specs.Taking.{held, tooMany, lengthEntry}
-use Rattle.text_listing.specs.declared.row.Entry.{Entry}
+use Rattle.text_listing.specs.Taking.{held, lengthEntry}
 use Rattle.text_listing.specs.declared.row.Entry.the-variants.{Refused}
 use Rattle.theorems_listing.proofs.Pieces.{said-whole, taken-whole as all-taken}
 use Rattle.theorems_listing.proofs.Texts.{too-long}
-use Rattle.text_captures.specs.declared.progress.Awaited.the-variants.{RecordHeader, Frame}
+use Rattle.text_captures.specs.declared.progress.Awaited.the-variants.{RecordHeader}
 use Rattle.text_captures.specs.declared.progress.Progress.{Progress}
 use Rattle.text_captures.specs.declared.progress.Said.the-variants.{NoRow}
 use Rattle.text_captures.specs.Captures.{number, isLittle, isCapture, storedOf, originalOf, recordSize, isWhole, recordEntry, entriesUpTo, entries, numbered, captureListing}
-use Rattle.text_captures.specs.Feeding.{begun, isLast, onward, within, stoppedAt, afterFileHeader, storedEntry, afterFrame, afterRecordHeader, acted, rowSaid, State, captures}
+use Rattle.text_captures.specs.Feeding.{begun, isLast, within, stoppedAt, afterFileHeader, afterFrame, afterRecordHeader, rowSaid, State, captures}
 use Rattle.theorems_captures.specs.Runs.{run, lastRow}
 use Rattle.theorems_captures.proofs.Numbers.{number-same, little-of-same, capture-same, same-stored}
 use Rattle.theorems_captures.proofs.Sayings.{awaited-come, few-come, nothing-said}

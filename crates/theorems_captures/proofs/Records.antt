@@ -1,22 +1,21 @@
 -- The rows of a file's records: 18 is in the last one, and there exactly where the file ends inside a record; 16 is in none.
 use Prim.Native.Nat.{ℕ, zero, suc, _+_, _≤_, _<_}
 use mathlib.Core.Path.{_≡_, refl, sym, ap, _∙_}
-use mathlib.Core.Bool.{Bool, true, false, cond, not, _&&_}
+use mathlib.Core.Bool.{Bool, true, false, not}
 use mathlib.Core.List.{List, [], _∷_, _++_, append-nil, append-assoc}
 use native.Mathlib.Omega.{arith}
-use borrow.Author.Tests.{ne-eqb, ltb-true, leb-true, le-leb}
-use lib.Dec.{ltb, leb, eqb}
-use lib.ListN.{length, take, drop, length-append, length-drop, length-take, take-append-drop}
+use borrow.Author.Tests.{ne-eqb, leb-true, le-leb}
+use lib.Dec.{ltb, leb}
+use lib.ListN.{length, take, drop, length-append, length-drop, take-append-drop}
 use lib.Seq.{take-at, drop-at, getD-take, length-take-le, drop-append-le}
-use Rattle.octets.specs.Tests.{every}
-use Rattle.octets.proofs.Bools.{whether, by-cond, and-l, and-r, not-both}
+use Rattle.octets.proofs.Bools.{whether, by-cond, and-l, and-r}
 use Rattle.octets.proofs.Stores.{empty}
 use Rattle.frame.specs.Frame.{Answer, refused, accepted, decode}
 use Rattle.frame.proofs.Stepping.{refused-number}
 use Rattle.text.proofs.Bounds.{by-bound}
 use Rattle.text_listing.specs.Rows.{entryOf, rowOf, header}
 use Rattle.text_listing.specs.declared.row.Entry.{Entry}
-use Rattle.text_listing.specs.declared.row.Entry.the-variants.{Accepted, Refused}
+use Rattle.text_listing.specs.declared.row.Entry.the-variants.{Refused}
 use Rattle.text_captures.specs.Captures.{storedOf, originalOf, recordSize, isWhole, isCapture, recordEntry, entriesUpTo, entries, captureListing}
 use Rattle.theorems_captures.specs.Records.{IsRecord, AreRecords, joined, EndsAtRecord, isRefusal, without, OnlyLast, recordEntries}
 use Rattle.theorems_captures.proofs.Numbers.{number-same, same-before}

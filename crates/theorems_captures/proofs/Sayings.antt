@@ -1,7 +1,7 @@
 -- What is said of the octets that are awaited: of all of them, of too few, and where nothing is awaited.
 use Prim.Native.Nat.{ℕ, suc, _+_, _≤_, _<_}
 use mathlib.Core.Path.{_≡_, refl, sym, ap, _∙_}
-use mathlib.Core.Bool.{Bool, true, false}
+use mathlib.Core.Bool.{false}
 use mathlib.Core.List.{List, [], _∷_, _++_}
 use native.Mathlib.Nat.{add-zero}
 use native.Mathlib.Numerals.{add-one}
@@ -14,7 +14,7 @@ use Rattle.text.specs.Pieces.{toSay}
 use Rattle.text_captures.specs.declared.progress.Awaited.{Awaited}
 use Rattle.text_captures.specs.declared.progress.Awaited.the-variants.{FileHeader, RecordHeader, Frame, Nothing}
 use Rattle.text_captures.specs.declared.progress.Progress.{Progress}
-use Rattle.text_captures.specs.Feeding.{wanted, isStopped, ahead, isLast, withFilled, afterFileHeader, afterRecordHeader, afterFrame, actedBy, acted, rowSaid, lastOf, State, captures}
+use Rattle.text_captures.specs.Feeding.{wanted, isStopped, ahead, withFilled, afterFileHeader, afterRecordHeader, afterFrame, actedBy, acted, rowSaid, lastOf, State, captures}
 
 abbrev at : Progress → List ℕ → State
 at p f = record { progress = p; frame = f }

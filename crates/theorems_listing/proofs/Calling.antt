@@ -7,10 +7,10 @@ use native.Mathlib.Nat.{add-zero}
 use native.Mathlib.Omega.{arith}
 use lib.ListN.{length, take, drop}
 use lib.Seq.{sets, sets-eq, length-take-le, take-at, drop-at, drop-drop, drop-append-le}
-use Rattle.text.specs.Pieces.{Steps, Fed, fedFrom, Stage, stageAfter, goneOn, Run, called}
+use Rattle.text.specs.Pieces.{Steps, Fed, fedFrom, Stage, stageAfter, goneOn, called}
 use Rattle.theorems_listing.proofs.Pieces.{further, counted-from, taken-within}
 use Rattle.text_listing.specs.declared.feeding.Place.{Place}
-use Rattle.text_listing.specs.Feeding.{State, lister, fed, Feeds}
+use Rattle.text_listing.specs.Feeding.{State, lister, Feeds}
 
 -- octets that were stored are read from where they stand
 stored-there : (out : List ℕ) (at : ℕ) (text : List ℕ) → at + length text ≤ length out → take (length text) (drop at (sets out at text)) ≡ text
