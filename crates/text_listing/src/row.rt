@@ -1,6 +1,7 @@
 // The rows of a listing, and what a frame's row says of it.
 ghost use mathlib.Core.Path.{_≡_};
 ghost use Prim.Native.Nat.{_+_, _≤_};
+ghost use lib.Dec.{leb};
 ghost use lib.ListN.{length};
 ghost use Rattle.frame.specs.Frame.{decode};
 ghost use Rattle.text.specs.Put.{Put, Stored};
@@ -81,14 +82,24 @@ pub(crate) fn store_row(out: &mut [u8], at: usize, number: u64, entry: Entry) ->
     }
 }
 
-// The same where it may not fit: then nothing is stored. (`feed` asks for the room of any row, and counts the digits once.)
+// Whether a row fits into so much room. Its digits are counted only where there is not room for any row.
+fn has_room(room: usize, number: u64, entry: Entry) -> bool
+    ensures { λ r. ⌜ r ≡ leb (length (rowOf number entry)) room ⌝ }
+{
+    if ROW <= room {
+        return true;
+    }
+    row_octets(number, entry) <= room
+}
+
+// The same where it may not fit: then nothing is stored.
 pub fn put_row(out: &mut [u8], at: usize, number: u64, entry: Entry) -> usize
     ensures { λ r. ⌜ Put (rowOf number entry) (now (out .entry)) at r (now (out .exit)) ⌝ }
 {
-    if text::room_from(out, at) < row_octets(number, entry) {
-        return at;
+    if has_room(text::room_from(out, at), number, entry) {
+        return store_row(out, at, number, entry);
     }
-    store_row(out, at, number, entry)
+    at
 }
 
 // What a frame's row says of it.
