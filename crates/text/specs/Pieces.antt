@@ -1,5 +1,6 @@
 -- An input that is taken a character at a time, by calls that are each lent a piece of it and room for what is said. The
--- definitions are for any steps, whatever their state; the listing's, over lines, are `lister` of `text_listing`.
+-- definitions are for any steps, whatever their state; the listing's, over lines, are `lister` of `text_listing`, those of a
+-- capture file, over octets, `captures` of `text_captures`.
 use Prim.Native.Nat.{ℕ, _+_, _-_, _≤_, _<_}
 use mathlib.Core.List.{List, [], _∷_, _++_}
 use mathlib.Core.Bool.{cond}

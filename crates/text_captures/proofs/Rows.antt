@@ -20,7 +20,7 @@ use Rattle.text_captures.specs.declared.progress.Awaited.the-variants.{F
 use Rattle.text_captures.specs.declared.progress.Progress.{Progress}
 use Rattle.text_captures.specs.declared.progress.Said.{Said}
 use Rattle.text_captures.specs.declared.progress.Said.the-variants.{NoRow, Row}
-use Rattle.text_captures.specs.Feeding.{lastBy, lastOf, rowSaid, Finishes}
+use Rattle.text_captures.specs.Feeding.{leftBy, leftToSay, rowSaid, Finishes}
 use Rattle.text_captures.proofs.progress.Said.{the-row}
 
 -- what code can hold: an entry's numbers are of their types
@@ -28,7 +28,7 @@ pub said-within : (n : ℕ) (said : Said) {held : List Val} → Is the-row said 
 said-within n NoRow is = omega arith
 said-within n (Row entry) is = row-within n entry (is .1 .1 .1 .1 .0)
 
-last-within : (n : ℕ) (awaited : Awaited) (filled : ℕ) → length (rowSaid n (lastBy awaited filled)) ≤ rowRoom
+last-within : (n : ℕ) (awaited : Awaited) (filled : ℕ) → length (rowSaid n (leftBy awaited filled)) ≤ rowRoom
 last-within n FileHeader filled = refused-within n 16 (omega arith)
 last-within n RecordHeader filled = by-cond (λ (said : Said). length (rowSaid n said) ≤ rowRoom) (eqb filled 0) (λ _. omega arith) (λ _. refused-within n 18 (omega arith))
 last-within n Frame filled = refused-within n 18 (omega arith)
@@ -37,10 +37,10 @@ last-within n Nothing filled = omega arith
 -- ---- the three ways in which the end keeps its promise
 
 module _ (p : Progress) (out : List ℕ) where
-  pub finishes-none : lastOf p ≡ NoRow → Finishes p out (Written 0) out
+  pub finishes-none : leftToSay p ≡ NoRow → Finishes p out (Written 0) out
   finishes-none none = record { result = rw none; output = rw none (by-cond (λ (x : List ℕ). out ≡ x) (ltb (length out) rowRoom) (λ _. refl) (λ _. refl)); fits = omega arith }
 
-  module _ (entry : Entry) (row : lastOf p ≡ Row entry) where
+  module _ (entry : Entry) (row : leftToSay p ≡ Row entry) where
     pub finishes-short : length out < rowRoom → Finishes p out (NoRoom 9) out
     finishes-short short = record { result = rw (row, lt-ltb (length out) rowRoom short); output = rw (lt-ltb (length out) rowRoom short); fits = omega arith }
 

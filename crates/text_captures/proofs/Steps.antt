@@ -152,7 +152,7 @@ module _ (from : Place) (f₀ piece out₀ : List ℕ) where
 
     -- at the call's end
     feeds : goneOn captures piece (stage here f out) ≡ stage here f out → Feeds from f₀ piece out₀ here f out
-    feeds e = record { last = sym (s .same ∙ e); fits = s .room }
+    feeds e = record { comes = sym (s .same ∙ e); fits = s .room }
 
     pub feeds-all : length piece ≤ here .taken → Feeds from f₀ piece out₀ here f out
     feeds-all h = feeds (ended captures piece (stage here f out) h)

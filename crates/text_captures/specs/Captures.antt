@@ -31,8 +31,8 @@ fileHeader = 24
 abbrev pub magic : ℕ
 magic = 0xa1b2_c3d4
 
-abbrev pub ethernet : ℕ
-ethernet = 1
+abbrev pub linkType : ℕ
+linkType = 1
 
 -- whether a file's numbers are little-endian
 unfoldable pub isLittle : List ℕ → Bool
@@ -40,7 +40,7 @@ isLittle s = eqb (number true s 0) magic
 
 -- not "file header short, of another magic number or link type"
 unfoldable pub isCapture : List ℕ → Bool
-isCapture s = leb fileHeader (length s) && (eqb (number (isLittle s) s 0) magic && eqb (number (isLittle s) s 20) ethernet)
+isCapture s = leb fileHeader (length s) && (eqb (number (isLittle s) s 0) magic && eqb (number (isLittle s) s 20) linkType)
 
 -- ---- records
 
@@ -58,9 +58,9 @@ originalOf little s = number little s 12
 abbrev pub recordSize : Bool → List ℕ → ℕ
 recordSize little s = recordHeader + storedOf little s
 
--- not "file ends inside a record or its header"
+-- not "file ends inside a record or its header", which has 16 of its octets
 unfoldable pub isWhole : Bool → List ℕ → Bool
-isWhole little s = leb recordHeader (length s) && leb (recordSize little s) (length s)
+isWhole little s = leb (recordSize little s) (length s)
 
 -- "A record cut short by the capture (stored length below original length) is reported and not read"; any other is read, and
 -- "one longer than 1,514 is answered 1" as a frame of so many octets is
@@ -83,12 +83,12 @@ entries little s = entriesUpTo (length s) little s
 
 -- ---- the listing
 
--- "the same header and line for each record", the first with that number
+-- the rows of some entries, the first with that number
 unfoldable pub numbered : ℕ → List Entry → List ℕ
 numbered n [] = []
 numbered n (entry ∷ rest) = rowOf n entry ++ numbered (following n) rest
 
--- "numbered from 1"; "16 file header short, of another magic number or link type, given as line 0, the only one"
+-- "the same header and line for each record, numbered from 1"; "16 file header short, of another magic number or link type, given as line 0, the only one"
 unfoldable pub captureListing : List ℕ → List ℕ
 captureListing input =
     header ++ cond (isCapture input) (numbered 1 (entries (isLittle input) (drop fileHeader input))) (rowOf 0 (Refused 16))

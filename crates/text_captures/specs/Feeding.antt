@@ -22,7 +22,7 @@ use Rattle.text_captures.specs.declared.progress.Said.{Said}
 use Rattle.text_captures.specs.declared.progress.Said.the-variants.{NoRow, Row}
 use Rattle.text_captures.specs.declared.progress.Acted.{Acted}
 use Rattle.text_captures.specs.declared.feeding.Place.{Place}
-use Rattle.text_captures.specs.Captures.{number, fileHeader, isLittle, isCapture, recordHeader, storedOf, originalOf}
+use Rattle.text_captures.specs.Captures.{fileHeader, isLittle, isCapture, recordHeader, storedOf, originalOf}
 
 -- ---- what is awaited
 
@@ -57,28 +57,28 @@ abbrev pub withFilled : Progress → ℕ → Progress
 withFilled p n = record { awaited = p .awaited; number = p .number; little = p .little; filled = n; stored = p .stored; original = p .original }
 
 -- a record's header is awaited, with the next number
-abbrev pub onward : Progress → Bool → Progress
-onward p little = record { awaited = RecordHeader; number = following (p .number); little = little; filled = 0; stored = 0; original = 0 }
+abbrev pub awaitingRecord : Progress → Bool → Progress
+awaitingRecord p little = record { awaited = RecordHeader; number = following (p .number); little = little; filled = 0; stored = 0; original = 0 }
 
 -- a record's octets are awaited
-abbrev pub within : Progress → ℕ → ℕ → Progress
-within p stored original = record { awaited = Frame; number = p .number; little = p .little; filled = 0; stored = stored; original = original }
+abbrev pub awaitingFrame : Progress → ℕ → ℕ → Progress
+awaitingFrame p stored original = record { awaited = Frame; number = p .number; little = p .little; filled = 0; stored = stored; original = original }
 
 -- nothing is awaited any more
-abbrev pub stoppedAt : Progress → Progress
-stoppedAt p = record { awaited = Nothing; number = p .number; little = p .little; filled = 0; stored = 0; original = 0 }
+abbrev pub awaitingNothing : Progress → Progress
+awaitingNothing p = record { awaited = Nothing; number = p .number; little = p .little; filled = 0; stored = 0; original = 0 }
 
 -- ---- what comes of the octets that were awaited, once the working frame has them
 
--- no record can be found after an answer
+-- after this answer no record can be found
 abbrev pub stopsWith : Progress → ℕ → Acted
-stopsWith p answer = record { progress = stoppedAt p; said = Row (Refused answer) }
+stopsWith p answer = record { progress = awaitingNothing p; said = Row (Refused answer) }
 
 -- a file's header; a working frame that has no room for it is lent too short
 unfoldable pub afterFileHeader : Progress → List ℕ → Acted
 afterFileHeader p f =
     cond (ltb (length f) fileHeader) (stopsWith p 9)
-    (cond (isCapture f) (record { progress = onward p (isLittle f); said = NoRow }) (stopsWith p 16))
+    (cond (isCapture f) (record { progress = awaitingRecord p (isLittle f); said = NoRow }) (stopsWith p 16))
 
 -- the entry of octets that are stored: "17 before 1"
 abbrev pub storedEntry : List ℕ → ℕ → ℕ → Entry
@@ -86,14 +86,14 @@ storedEntry f stored original = cond (ltb stored original) (Refused 17) (lengthE
 
 -- a record's octets
 unfoldable pub afterFrame : Progress → List ℕ → Acted
-afterFrame p f = record { progress = onward p (p .little); said = Row (storedEntry f (p .stored) (p .original)) }
+afterFrame p f = record { progress = awaitingRecord p (p .little); said = Row (storedEntry f (p .stored) (p .original)) }
 
 -- a record's header: where no octet is stored, the record is whole with it
 unfoldable pub afterRecordHeader : Progress → List ℕ → Acted
 afterRecordHeader p f =
     cond (ltb (length f) recordHeader) (stopsWith p 9)
-    (cond (eqb (storedOf (p .little) f) 0) (afterFrame (within p 0 (originalOf (p .little) f)) f)
-    (record { progress = within p (storedOf (p .little) f) (originalOf (p .little) f); said = NoRow }))
+    (cond (eqb (storedOf (p .little) f) 0) (afterFrame (awaitingFrame p 0 (originalOf (p .little) f)) f)
+    (record { progress = awaitingFrame p (storedOf (p .little) f) (originalOf (p .little) f); said = NoRow }))
 
 abbrev pub actedBy : Awaited → Progress → List ℕ → Acted
 actedBy FileHeader p f = afterFileHeader p f
@@ -109,16 +109,19 @@ abbrev pub rowSaid : ℕ → Said → List ℕ
 rowSaid n NoRow = []
 rowSaid n (Row entry) = rowOf n entry
 
--- ---- at the file's end
+-- ---- what the file's end leaves to say
 
-abbrev pub lastBy : Awaited → ℕ → Said
-lastBy FileHeader filled = Row (Refused 16)
-lastBy RecordHeader filled = cond (eqb filled 0) NoRow (Row (Refused 18))
-lastBy Frame filled = Row (Refused 18)
-lastBy Nothing filled = NoRow
+abbrev pub leftBy : Awaited → ℕ → Said
+leftBy FileHeader filled = Row (Refused 16)
+leftBy RecordHeader filled = cond (eqb filled 0) NoRow (Row (Refused 18))
+leftBy Frame filled = Row (Refused 18)
+leftBy Nothing filled = NoRow
 
-abbrev pub lastOf : Progress → Said
-lastOf p = lastBy (p .awaited) (p .filled)
+abbrev pub leftToSay : Progress → Said
+leftToSay p = leftBy (p .awaited) (p .filled)
+
+abbrev pub lastRow : Progress → List ℕ
+lastRow p = rowSaid (p .number) (leftToSay p)
 
 -- ---- the steps
 
@@ -127,25 +130,25 @@ pub record State : Type 0 where
   pub progress : Progress
   pub frame : List ℕ
 
--- an octet is collected where the working frame has room for it
-abbrev pub collected : State → ℕ → List ℕ
-collected s c = set (s .frame) (s .progress .filled) c
+-- one octet more, where the working frame has room for it
+abbrev pub frameWith : State → ℕ → List ℕ
+frameWith s c = set (s .frame) (s .progress .filled) c
 
 -- an octet before the last one
 abbrev pub goesOn : State → ℕ → State
-goesOn s c = cond (isStopped (s .progress .awaited)) s (record { progress = withFilled (s .progress) (s .progress .filled + 1); frame = collected s c })
+goesOn s c = cond (isStopped (s .progress .awaited)) s (record { progress = withFilled (s .progress) (s .progress .filled + 1); frame = frameWith s c })
 
 -- the last one
 abbrev pub completes : State → ℕ → State
-completes s c = record { progress = acted (s .progress) (collected s c) .progress; frame = collected s c }
+completes s c = record { progress = acted (s .progress) (frameWith s c) .progress; frame = frameWith s c }
 
 -- The last octet that is awaited says the row, if there is one, and wants room for any row.
 abbrev pub captures : Steps State
 captures = record {
   next = λ s c. cond (isLast (s .progress)) (completes s c) (goesOn s c);
-  says = λ s c. cond (isLast (s .progress)) (rowSaid (s .progress .number) (acted (s .progress) (collected s c) .said)) [];
+  says = λ s c. cond (isLast (s .progress)) (rowSaid (s .progress .number) (acted (s .progress) (frameWith s c) .said)) [];
   wants = λ s c. cond (isLast (s .progress)) rowRoom 0;
-  last = λ s. rowSaid (s .progress .number) (lastOf (s .progress));
+  last = λ s. lastRow (s .progress);
 }
 
 -- ---- what is promised
@@ -154,9 +157,9 @@ captures = record {
 abbrev pub stage : Place → List ℕ → List ℕ → Stage State
 stage p f out = record { state = record { progress = p .progress; frame = f }; taken = p .taken; waiting = p .waiting; output = out }
 
--- what `feed` promises: the last stage of the call, and that what waits fits into the output
+-- what `feed` promises: the stage that the call comes to, and that what waits fits into the output
 pub record Feeds (p : Place) (f piece out : List ℕ) (r : Place) (f' out' : List ℕ) : Type 0 where
-  pub last : stage r f' out' ≡ goneOn captures piece (stage p f out)
+  pub comes : stage r f' out' ≡ goneOn captures piece (stage p f out)
   pub fits : p .waiting ≤ length out → r .waiting ≤ length out
 
 -- a part of a piece that is taken before anything is said: whatever waits, the call comes to the same from there
@@ -180,6 +183,6 @@ finishedBy octets n (Row entry) = cond (ltb octets rowRoom) (NoRoom 9) (Written 
 
 -- what `finish` promises: the result, the row at the output's front, and that it fits
 pub record Finishes (p : Progress) (out : List ℕ) (r : Finished) (out' : List ℕ) : Type 0 where
-  pub result : r ≡ finishedBy (length out) (p .number) (lastOf p)
-  pub output : out' ≡ cond (ltb (length out) rowRoom) out (sets out 0 (rowSaid (p .number) (lastOf p)))
+  pub result : r ≡ finishedBy (length out) (p .number) (leftToSay p)
+  pub output : out' ≡ cond (ltb (length out) rowRoom) out (sets out 0 (lastRow p))
   pub fits : octetsWritten r ≤ length out

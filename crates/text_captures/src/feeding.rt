@@ -68,7 +68,7 @@ pub fn feed(place: Place, frame: &mut [u8], piece: &[u8], out: &mut [u8]) -> Pla
 pub fn finish(progress: Progress, out: &mut [u8]) -> Finished
     ensures { λ r. ⌜ Finishes progress (now (out .entry)) r (now (out .exit)) ⌝ }
 {
-    let said = progress.last();
+    let said = progress.left_to_say();
     match said {
         Said::NoRow => Finished::Written(0),
         Said::Row(entry) => {

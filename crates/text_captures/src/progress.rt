@@ -1,9 +1,9 @@
 // Where a capture file's listing stands between two octets, and what comes of the octets that were awaited.
 ghost use mathlib.Core.Path.{_≡_};
-ghost use Prim.Native.Nat.{_+_, _≤_};
+ghost use Prim.Native.Nat.{_≤_};
 ghost use lib.ListN.{length, set};
 ghost use Rattle.text_captures.specs.Captures.{isLittle, isCapture};
-ghost use Rattle.text_captures.specs.Feeding.{begun, wanted, isStopped, ahead, withFilled, onward, within, stopsWith, afterFileHeader, storedEntry, afterFrame, afterRecordHeader, acted, lastOf, Collects};
+ghost use Rattle.text_captures.specs.Feeding.{begun, wanted, isStopped, ahead, awaitingRecord, awaitingFrame, stopsWith, afterFileHeader, storedEntry, afterFrame, afterRecordHeader, acted, leftToSay, Collects};
 use crate::number::number;
 use text_listing::Entry;
 
@@ -44,14 +44,14 @@ pub struct Collected {
     pub at: usize,
 }
 
-// The octets of a file's header and of a record's; the magic number, and the link type of Ethernet.
+// The octets of a file's header and of a record's; the magic number, and the one link type that is read, Ethernet's.
 const FILE_HEADER: usize = 24;
 
 const RECORD_HEADER: usize = 16;
 
 const MAGIC: u32 = 0xa1b2c3d4;
 
-const ETHERNET: u32 = 1;
+const LINK_TYPE: u32 = 1;
 
 // Whether a file's numbers are little-endian.
 fn is_little(header: &[u8]) -> bool
@@ -69,7 +69,7 @@ fn is_capture(little: bool, header: &[u8]) -> bool
     if number(little, header, 0) != MAGIC {
         return false;
     }
-    number(little, header, 20) == ETHERNET
+    number(little, header, 20) == LINK_TYPE
 }
 
 // The entry of octets that are stored, of so many that there were.
@@ -141,8 +141,8 @@ impl Progress {
     }
 
     // A record's header is awaited, with the next number.
-    fn onward(self, little: bool) -> Progress
-        ensures { λ r. ⌜ r ≡ onward self little ⌝ }
+    fn awaiting_record(self, little: bool) -> Progress
+        ensures { λ r. ⌜ r ≡ awaitingRecord self little ⌝ }
     {
         Progress {
             awaited: Awaited::RecordHeader,
@@ -155,8 +155,8 @@ impl Progress {
     }
 
     // A record's octets are awaited.
-    fn within(self, stored: u32, original: u32) -> Progress
-        ensures { λ r. ⌜ r ≡ within self stored original ⌝ }
+    fn awaiting_frame(self, stored: u32, original: u32) -> Progress
+        ensures { λ r. ⌜ r ≡ awaitingFrame self stored original ⌝ }
     {
         Progress {
             awaited: Awaited::Frame,
@@ -193,7 +193,7 @@ impl Progress {
         let little = is_little(frame);
         if is_capture(little, frame) {
             return Acted {
-                progress: self.onward(little),
+                progress: self.awaiting_record(little),
                 said: Said::NoRow,
             };
         }
@@ -206,7 +206,7 @@ impl Progress {
     {
         let entry = stored_entry(frame, self.stored, self.original);
         Acted {
-            progress: self.onward(self.little),
+            progress: self.awaiting_record(self.little),
             said: Said::Row(entry),
         }
     }
@@ -219,7 +219,7 @@ impl Progress {
             return self.stops_with(9);
         }
         let stored = number(self.little, frame, 8);
-        let progress = self.within(stored, number(self.little, frame, 12));
+        let progress = self.awaiting_frame(stored, number(self.little, frame, 12));
         if stored == 0 {
             return progress.after_frame(frame);
         }
@@ -277,8 +277,8 @@ impl Progress {
     }
 
     // What is left to say at the file's end.
-    pub(crate) fn last(self) -> Said
-        ensures { λ r. ⌜ r ≡ lastOf self ⌝ }
+    pub(crate) fn left_to_say(self) -> Said
+        ensures { λ r. ⌜ r ≡ leftToSay self ⌝ }
     {
         let awaited = self.awaited;
         match awaited {

@@ -2,17 +2,20 @@
 use Prim.Native.Nat.{ℕ, zero, suc, _+_, _/_, _^_, _≤_, _<_}
 use mathlib.Core.Path.{_≡_, refl, sym, ap, _∙_}
 use mathlib.Core.Bool.{Bool, true, false}
-use mathlib.Core.List.{List, [], _∷_, _++_, append-nil}
+use mathlib.Core.List.{List, [], _∷_, _++_, append-nil, append-assoc}
 use native.Mathlib.Omega.{arith}
-use borrow.Author.Tests.{le-leb}
+use borrow.Author.Tests.{le-leb, lt-leb}
 use lib.ListN.{length, getD, take, drop, length-append}
-use lib.Seq.{take-at, getD-drop}
+use lib.Seq.{take-at, getD-drop, getD-take, length-take-le}
 use Rattle.octets.proofs.Numbers.{past, number-read, length-oct}
+use Rattle.text.proofs.Bounds.{by-bound}
 use Rattle.text_listing.specs.Rows.{header}
-use Rattle.text_captures.specs.Captures.{numLittle, number, magic, ethernet, isLittle, isCapture, storedOf, originalOf, recordSize, isWhole, recordEntry, entries, numbered, captureListing}
-use Rattle.theorems_captures.specs.Files.{octLittle, fourOctets, Captured, Formed, AllFormed, recordOctets, allOctets, fileOf, entryFor, entriesFor}
+use Rattle.text_listing.specs.declared.row.Entry.the-variants.{Refused}
+use Rattle.text_captures.specs.Captures.{numLittle, number, magic, linkType, isLittle, isCapture, storedOf, originalOf, recordSize, isWhole, recordEntry, entries, numbered, captureListing}
+use Rattle.theorems_captures.specs.Files.{octLittle, fourOctets, FileRecord, Formed, AllFormed, recordOctets, allOctets, fileWith, fileOf, endingInside, entryFor, entriesFor}
 use Rattle.theorems_captures.specs.Records.{IsRecord}
-use Rattle.theorems_captures.proofs.Records.{record-before, no-entry}
+use Rattle.theorems_captures.proofs.Records.{record-before, inside-entry, no-entry}
+use Rattle.theorems_captures.proofs.Numbers.{number-same}
 
 -- ---- numbers
 
@@ -41,7 +44,7 @@ four-read false v s at y h e = number-read 4 v s at y h e
 
 -- ---- a record
 
-module _ (little : Bool) (r : Captured) (formed : Formed r) where
+module _ (little : Bool) (r : FileRecord) (formed : Formed r) where
   abbrev s : List ℕ
   s = recordOctets little r
 
@@ -78,20 +81,42 @@ module _ (little : Bool) (r : Captured) (formed : Formed r) where
         longer-by-four little (r .original) (r .octets),
       )
 
-  pub is-record : IsRecord little s
-  unfolding isWhole
-  is-record = (rw (le-leb 16 (length s) (omega (arith, size)), le-leb (recordSize little s) (length s) (omega (arith, size, stored-read))), size ∙ rw stored-read)
+  is-record : IsRecord little s
+  is-record = size ∙ rw stored-read
 
-  pub entry-read : recordEntry little s ≡ entryFor r
+  entry-read : recordEntry little s ≡ entryFor r
   unfolding recordEntry
   entry-read =
       let octets : take (length (r .octets)) (r .octets) ≡ r .octets = ap (take (length (r .octets))) (sym (append-nil (r .octets))) ∙ take-at (r .octets) [] (length (r .octets)) refl in
       rw (stored-read, original-read, at-16, octets)
 
-pub all-read : (little : Bool) (rs : List Captured) → AllFormed rs → entries little (allOctets little rs) ≡ entriesFor rs
-all-read little [] formed = no-entry little
-all-read little (r ∷ rs) formed =
-    record-before little (recordOctets little r) (allOctets little rs) (is-record little r (formed .0)) ∙ rw (entry-read little r (formed .0), all-read little rs (formed .1))
+all-read : (little : Bool) (rs : List FileRecord) (rest : List ℕ) → AllFormed rs → entries little (allOctets little rs ++ rest) ≡ entriesFor rs ++ entries little rest
+all-read little [] rest formed = refl
+all-read little (r ∷ rs) rest formed =
+    rw (append-assoc (recordOctets little r) (allOctets little rs) rest)
+    (record-before little (recordOctets little r) (allOctets little rs ++ rest) (is-record little r (formed .0))
+    ∙ rw (entry-read little r (formed .0), all-read little rs rest (formed .1)))
+
+-- the first octets of a record: the file ends inside it
+module _ (little : Bool) (r : FileRecord) (count : ℕ) (formed : Formed r) (few : count < length (recordOctets little r)) where
+  abbrev part : List ℕ
+  part = take count (recordOctets little r)
+
+  many : length part ≡ count
+  many = length-take-le count (recordOctets little r) (omega arith)
+
+  not-whole : isWhole little part ≡ false
+  unfolding isWhole
+  not-whole =
+      let s = recordOctets little r in
+      by-bound count 16
+      (λ short. lt-leb (recordSize little part) (length part) (omega (arith, many)))
+      (λ enough.
+      let stored : storedOf little part ≡ storedOf little s = number-same 16 part s (λ i h. getD-take count s i 0 (omega arith)) little 8 (omega arith) in
+      lt-leb (recordSize little part) (length part) (omega (arith, many, stored, is-record little r formed)))
+
+  inside-read : 0 < count → entries little part ≡ Refused 18 ∷ []
+  inside-read some = inside-entry little part (omega (arith, many)) not-whole
 
 -- ---- a file
 
@@ -101,31 +126,54 @@ unfolding isLittle number fourOctets
 told true y = refl
 told false y = refl
 
-module _ (little : Bool) (between : List ℕ) (rs : List Captured) (unread : length between ≡ 16) where
+module _ (little : Bool) (between octets : List ℕ) (unread : length between ≡ 16) where
   abbrev file : List ℕ
-  file = fileOf little between rs
+  file = fileWith little between octets
 
-  after-between : drop 20 file ≡ fourOctets little ethernet ++ allOctets little rs
+  after-between : drop 20 file ≡ fourOctets little linkType ++ octets
   after-between = past file 4 16 between _ unread (past file 0 4 (fourOctets little magic) _ (length-four little magic) refl)
 
-  after-header : drop 24 file ≡ allOctets little rs
-  after-header = past file 20 4 (fourOctets little ethernet) _ (length-four little ethernet) after-between
+  after-header : drop 24 file ≡ octets
+  after-header = past file 20 4 (fourOctets little linkType) _ (length-four little linkType) after-between
 
   is-capture : isCapture file ≡ true
   unfolding isCapture
   is-capture =
-      let linked = fourOctets little ethernet ++ allOctets little rs in
-      let long : 24 ≤ length file = omega (arith, longer-by-four little magic (between ++ linked), length-append between linked, longer-by-four little ethernet (allOctets little rs)) in
+      let linked = fourOctets little linkType ++ octets in
+      let long : 24 ≤ length file = omega (arith, longer-by-four little magic (between ++ linked), length-append between linked, longer-by-four little linkType octets) in
       let magic-read = four-read little magic file 0 _ (omega arith) refl in
-      let type-read = four-read little ethernet file 20 _ (omega arith) after-between in
+      let type-read = four-read little linkType file 20 _ (omega arith) after-between in
       rw (le-leb 24 (length file) long, told little (between ++ linked), magic-read, type-read)
 
-  -- what was written is listed
-  pub file-listed : AllFormed rs → captureListing file ≡ header ++ numbered 1 (entriesFor rs)
+  file-rows : captureListing file ≡ header ++ numbered 1 (entries little octets)
   unfolding captureListing
-  file-listed formed = rw (is-capture, told little (between ++ (fourOctets little ethernet ++ allOctets little rs)), after-header, all-read little rs formed)
+  file-rows = rw (is-capture, told little (between ++ (fourOctets little linkType ++ octets)), after-header)
+
+-- ---- the theorems
+
+module _ (little : Bool) (between : List ℕ) (rs : List FileRecord) (unread : length between ≡ 16) (formed : AllFormed rs) where
+  -- what was written is listed
+  pub file-listed : captureListing (fileOf little between rs) ≡ header ++ numbered 1 (entriesFor rs)
+  file-listed =
+      let rows : entries little (allOctets little rs) ≡ entriesFor rs =
+      ap (entries little) (sym (append-nil (allOctets little rs))) ∙ all-read little rs [] formed ∙ rw (no-entry little) (append-nil (entriesFor rs)) in
+      file-rows little between (allOctets little rs) unread ∙ rw rows
+
+  -- the file ends inside a further record
+  pub inside-listed : (r : FileRecord) (count : ℕ) → Formed r → 0 < count → count < length (recordOctets little r)
+      → captureListing (endingInside little between rs r count) ≡ header ++ numbered 1 (entriesFor rs ++ (Refused 18 ∷ []))
+  inside-listed r count one some few =
+      file-rows little between (allOctets little rs ++ take count (recordOctets little r)) unread
+      ∙ rw (all-read little rs (take count (recordOctets little r)) formed, inside-read little r count one few some)
 
 -- the same records in the other byte order give the same listing
-pub either-order : (between between' : List ℕ) (rs : List Captured) → length between ≡ 16 → length between' ≡ 16 → AllFormed rs
-    → captureListing (fileOf true between rs) ≡ captureListing (fileOf false between' rs)
-either-order between between' rs unread unread' formed = file-listed true between rs unread formed ∙ sym (file-listed false between' rs unread' formed)
+module _ (between between' : List ℕ) (rs : List FileRecord) (unread : length between ≡ 16) (unread' : length between' ≡ 16) (formed : AllFormed rs) where
+  pub either-order : captureListing (fileOf true between rs) ≡ captureListing (fileOf false between' rs)
+  either-order = file-listed true between rs unread formed ∙ sym (file-listed false between' rs unread' formed)
+
+  -- also where the file ends inside a further one
+  pub either-order-inside : (r : FileRecord) (count : ℕ) → Formed r → 0 < count → count < 16 + length (r .octets)
+      → captureListing (endingInside true between rs r count) ≡ captureListing (endingInside false between' rs r count)
+  either-order-inside r count one some few =
+      inside-listed true between rs unread formed r count one some (omega (arith, size true r one))
+      ∙ sym (inside-listed false between' rs unread' formed r count one some (omega (arith, size false r one)))

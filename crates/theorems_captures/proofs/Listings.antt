@@ -11,20 +11,20 @@ use lib.ListN.{length, take, drop, length-drop}
 use lib.Seq.{sets, sets-eq, length-sets, take-at, length-take-le, drop-drop}
 use Rattle.octets.proofs.Bools.{whether}
 use Rattle.frame.specs.Frame.{decode}
-use Rattle.text.specs.Pieces.{Call, toSay, Within, Able}
+use Rattle.text.specs.Pieces.{fedFrom, Call, toSay, Within, Able}
 use Rattle.text.proofs.Bounds.{by-bound}
 use Rattle.text_listing.specs.Rows.{entryOf, rowOf, rowRoom, header}
 use Rattle.text_listing.specs.Listing.{following}
 use Rattle.text_listing.specs.Taking.{held, lengthEntry}
 use Rattle.text_listing.specs.declared.row.Entry.the-variants.{Refused}
-use Rattle.theorems_listing.proofs.Pieces.{said-whole, taken-whole as all-taken}
+use Rattle.theorems_listing.proofs.Pieces.{said-whole, some-taken, taken-whole as all-taken}
 use Rattle.theorems_listing.proofs.Texts.{too-long}
 use Rattle.text_captures.specs.declared.progress.Awaited.the-variants.{RecordHeader}
 use Rattle.text_captures.specs.declared.progress.Progress.{Progress}
 use Rattle.text_captures.specs.declared.progress.Said.the-variants.{NoRow}
 use Rattle.text_captures.specs.Captures.{number, isLittle, isCapture, storedOf, originalOf, recordSize, isWhole, recordEntry, entriesUpTo, entries, numbered, captureListing}
-use Rattle.text_captures.specs.Feeding.{begun, isLast, within, stoppedAt, afterFileHeader, afterFrame, afterRecordHeader, rowSaid, State, captures}
-use Rattle.theorems_captures.specs.Runs.{run, lastRow}
+use Rattle.text_captures.specs.Feeding.{begun, isLast, awaitingFrame, awaitingNothing, afterFileHeader, afterFrame, afterRecordHeader, rowSaid, lastRow, State, captures}
+use Rattle.theorems_captures.specs.Runs.{run}
 use Rattle.theorems_captures.proofs.Numbers.{number-same, little-of-same, capture-same, same-stored}
 use Rattle.theorems_captures.proofs.Sayings.{awaited-come, few-come, nothing-said}
 
@@ -77,7 +77,7 @@ module _ (n : ℕ) (little : Bool) (s : List ℕ) where
 
     -- its numbers are the file's
     after-header : afterRecordHeader (before n little) f'
-        ≡ cond (eqb stored 0) (afterFrame (within (before n little) 0 original) f') (record { progress = within (before n little) stored original; said = NoRow })
+        ≡ cond (eqb stored 0) (afterFrame (awaitingFrame (before n little) 0 original) f') (record { progress = awaitingFrame (before n little) stored original; said = NoRow })
     unfolding afterRecordHeader
     after-header =
         let same = same-stored f s 16 (omega arith) enough in
@@ -89,35 +89,35 @@ module _ (n : ℕ) (little : Bool) (s : List ℕ) where
     none-stored none = header-come ∙ rw (after-header, none, stored-whole f' [] still-long)
 
     -- some are: the row comes with the last of them
-    some-stored : 0 < stored → sayFrom n little f s ≡ toSay captures (record { progress = within (before n little) stored original; frame = f' }) (drop 16 s)
+    some-stored : 0 < stored → sayFrom n little f s ≡ toSay captures (record { progress = awaitingFrame (before n little) stored original; frame = f' }) (drop 16 s)
     some-stored some = header-come ∙ rw (after-header, ne-eqb stored 0 (λ e. absurd (omega (arith, e))))
 
     module _ (some : 0 < stored) where
       -- fewer than it says
       octets-short : length (drop 16 s) < stored → sayFrom n little f s ≡ rowOf n (Refused 18)
-      octets-short few = some-stored some ∙ few-come (drop 16 s) (within (before n little) stored original) f' refl (omega arith)
+      octets-short few = some-stored some ∙ few-come (drop 16 s) (awaitingFrame (before n little) stored original) f' refl (omega arith)
 
       all-stored : stored ≤ length (drop 16 s) → sayFrom n little f s ≡ rowOf n (recordEntry little s) ++ sayFrom (following n) little (sets f' 0 octets) (drop (16 + stored) s)
       unfolding afterFrame recordEntry
       all-stored all =
           let many : length octets ≡ stored = length-take-le stored (drop 16 s) all in
           let entry : lengthEntry (sets f' 0 octets) stored ≡ entryOf (decode octets) = rw many at (stored-whole f' octets still-long) in
-          some-stored some ∙ awaited-come (drop 16 s) (within (before n little) stored original) f' stored refl (omega arith) some all
+          some-stored some ∙ awaited-come (drop 16 s) (awaitingFrame (before n little) stored original) f' stored refl (omega arith) some all
           ∙ rw (entry, drop-drop stored 16 s)
 
 -- whether a record is whole, by how many octets there are
 module _ (little : Bool) (s : List ℕ) where
   pub short-header : length s < 16 → isWhole little s ≡ false
   unfolding isWhole
-  short-header few = rw (lt-leb 16 (length s) few)
+  short-header few = lt-leb (recordSize little s) (length s) (omega arith)
 
   pub short-octets : 16 ≤ length s → length (drop 16 s) < storedOf little s → isWhole little s ≡ false
   unfolding isWhole
-  short-octets enough few = rw (le-leb 16 (length s) enough, lt-leb (16 + storedOf little s) (length s) (omega (arith, length-drop 16 s)))
+  short-octets enough few = lt-leb (recordSize little s) (length s) (omega (arith, length-drop 16 s))
 
   pub all-there : 16 ≤ length s → storedOf little s ≤ length (drop 16 s) → isWhole little s ≡ true
   unfolding isWhole
-  all-there enough all = rw (le-leb 16 (length s) enough, le-leb (16 + storedOf little s) (length s) (omega (arith, length-drop 16 s)))
+  all-there enough all = le-leb (recordSize little s) (length s) (omega (arith, length-drop 16 s))
 
 -- a whole record and what follows it, where that is said as it should be from any working frame
 whole-said : (n : ℕ) (little : Bool) (f s : List ℕ) {rows : List ℕ} → 1514 ≤ length f → 16 ≤ length s → storedOf little s ≤ length (drop 16 s)
@@ -193,7 +193,7 @@ module _ (f input : List ℕ) (long : 1514 ≤ length f) where
     unfolding afterFileHeader
     file-refused not =
         file-come
-        ∙ rw (le-ltb (length headed) 24 (omega (arith, long-headed)), is-same .0, not, nothing-said (drop 24 input) (stoppedAt begun) headed refl)
+        ∙ rw (le-ltb (length headed) 24 (omega (arith, long-headed)), is-same .0, not, nothing-said (drop 24 input) (awaitingNothing begun) headed refl)
         (append-nil _)
 
   all-said : toSay captures start input ≡ rowsOf input
@@ -202,7 +202,7 @@ module _ (f input : List ℕ) (long : 1514 ≤ length f) where
 -- ---- the theorems
 
 pub captured : (frame input : List ℕ) (calls : List Call) → 1514 ≤ length frame → run frame input calls .left ≡ []
-    → header ++ (run frame input calls .said ++ lastRow (run frame input calls .state)) ≡ captureListing input
+    → header ++ (run frame input calls .said ++ lastRow (run frame input calls .state .progress)) ≡ captureListing input
 unfolding captureListing
 captured frame input calls long whole =
     ap (λ (said : List ℕ). header ++ said) (said-whole captures (record { progress = begun; frame = frame }) input calls whole ∙ all-said frame input long)
@@ -218,3 +218,7 @@ row-wanted s c = go (isLast (s .progress))
 -- as many able calls as the input has octets take it all
 pub taken-whole : (frame input : List ℕ) (calls : List Call) → Able rowRoom calls → length input ≤ length calls → run frame input calls .left ≡ []
 taken-whole frame input calls able h = all-taken captures rowRoom row-wanted (record { progress = begun; frame = frame }) input calls able h
+
+-- and each of them an octet or more
+pub each-takes : (s : State) (room : ℕ) (piece : List ℕ) → rowRoom ≤ room → 0 < length piece → 0 < fedFrom captures room (record { state = s; taken = 0; said = [] }) piece .taken
+each-takes s room piece h some = some-taken captures rowRoom row-wanted s room piece h some

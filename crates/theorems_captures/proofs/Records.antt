@@ -1,14 +1,14 @@
 -- The rows of a file's records: 18 is in the last one, and there exactly where the file ends inside a record; 16 is in none.
-use Prim.Native.Nat.{ℕ, zero, suc, _+_, _≤_, _<_}
+use Prim.Native.Nat.{ℕ, zero, suc, _≤_, _<_}
 use mathlib.Core.Path.{_≡_, refl, sym, ap, _∙_}
 use mathlib.Core.Bool.{Bool, true, false, not}
-use mathlib.Core.List.{List, [], _∷_, _++_, append-nil, append-assoc}
+use mathlib.Core.List.{List, [], _∷_, _++_, append-nil, append-assoc, map}
 use native.Mathlib.Omega.{arith}
 use borrow.Author.Tests.{ne-eqb, leb-true, le-leb}
-use lib.Dec.{ltb, leb}
+use lib.Dec.{ltb}
 use lib.ListN.{length, take, drop, length-append, length-drop, take-append-drop}
 use lib.Seq.{take-at, drop-at, getD-take, length-take-le, drop-append-le}
-use Rattle.octets.proofs.Bools.{whether, by-cond, and-l, and-r}
+use Rattle.octets.proofs.Bools.{whether, by-cond}
 use Rattle.octets.proofs.Stores.{empty}
 use Rattle.frame.specs.Frame.{Answer, refused, accepted, decode}
 use Rattle.frame.proofs.Stepping.{refused-number}
@@ -16,18 +16,17 @@ use Rattle.text.proofs.Bounds.{by-bound}
 use Rattle.text_listing.specs.Rows.{entryOf, rowOf, header}
 use Rattle.text_listing.specs.declared.row.Entry.{Entry}
 use Rattle.text_listing.specs.declared.row.Entry.the-variants.{Refused}
-use Rattle.text_captures.specs.Captures.{storedOf, originalOf, recordSize, isWhole, isCapture, recordEntry, entriesUpTo, entries, captureListing}
-use Rattle.theorems_captures.specs.Records.{IsRecord, AreRecords, joined, EndsAtRecord, isRefusal, without, OnlyLast, recordEntries}
+use Rattle.text_captures.specs.Captures.{isLittle, isCapture, storedOf, originalOf, recordSize, isWhole, recordEntry, entriesUpTo, entries, numbered, captureListing}
+use Rattle.theorems_captures.specs.Records.{IsRecord, AreRecords, joined, recordsIn, EndsAtRecord, entriesIn, isRefusal, without, OnlyLast}
 use Rattle.theorems_captures.proofs.Numbers.{number-same, same-before}
 
 -- ---- one record after another
 
 module _ (little : Bool) where
-  -- a whole record has as many octets as it says
-  pub whole-size : (s : List ℕ) → isWhole little s ≡ true → (16 ≤ length s) × (recordSize little s ≤ length s)
+  -- there are all octets of a whole record
+  whole-size : (s : List ℕ) → isWhole little s ≡ true → recordSize little s ≤ length s
   unfolding isWhole
-  whole-size s is =
-      (leb-true 16 (length s) (and-l (leb 16 (length s)) (leb (recordSize little s) (length s)) is), leb-true (recordSize little s) (length s) (and-r (leb 16 (length s)) (leb (recordSize little s) (length s)) is))
+  whole-size s is = leb-true (recordSize little s) (length s) is
 
   -- more turns than there are octets say no more
   enough-turns : (m k : ℕ) (s : List ℕ) → length s ≤ m → length s ≤ k → entriesUpTo m little s ≡ entriesUpTo k little s
@@ -45,16 +44,16 @@ module _ (little : Bool) where
   -- the first record, and the others
   pub first-entry : (s : List ℕ) → isWhole little s ≡ true → entries little s ≡ recordEntry little s ∷ entries little (drop (recordSize little s) s)
   unfolding entries entriesUpTo
-  first-entry [] is = absurd (omega (arith, whole-size [] is .0))
+  first-entry [] is = absurd (omega (arith, whole-size [] is))
   first-entry (c ∷ s) is =
       let rest = drop (recordSize little (c ∷ s)) (c ∷ s) in
       rw (is, enough-turns (length s) (length rest) rest (omega (arith, length-drop (recordSize little (c ∷ s)) (c ∷ s))) (omega arith))
 
-  -- no record: the file ends inside one
-  pub cut-entry : (s : List ℕ) → 0 < length s → isWhole little s ≡ false → entries little s ≡ Refused 18 ∷ []
+  -- no whole record: the file ends inside one
+  pub inside-entry : (s : List ℕ) → 0 < length s → isWhole little s ≡ false → entries little s ≡ Refused 18 ∷ []
   unfolding entries entriesUpTo
-  cut-entry [] some not = absurd (omega arith)
-  cut-entry (c ∷ s) some not = rw not
+  inside-entry [] some not = absurd (omega arith)
+  inside-entry (c ∷ s) some not = rw not
 
   -- no octet is left
   pub no-entry : entries little [] ≡ []
@@ -63,31 +62,30 @@ module _ (little : Bool) where
 
   -- a record with others after it
   module _ (s rest : List ℕ) (is : IsRecord little s) where
+    long-enough : 16 ≤ length s
+    long-enough = omega (arith, is)
+
     size-before : recordSize little (s ++ rest) ≡ recordSize little s
-    size-before = let enough = whole-size s (is .0) .0 in rw (number-same 16 (s ++ rest) s (same-before s rest 16 enough) little 8 (omega arith))
+    size-before = rw (number-same 16 (s ++ rest) s (same-before s rest 16 long-enough) little 8 (omega arith))
 
     whole-before : isWhole little (s ++ rest) ≡ true
     unfolding isWhole
-    whole-before =
-        let size = whole-size s (is .0) in
-        let more = length-append s rest in
-        rw (le-leb 16 (length (s ++ rest)) (omega (arith, size .0)), le-leb (recordSize little (s ++ rest)) (length (s ++ rest)) (omega (arith, size .1, size-before)))
+    whole-before = le-leb (recordSize little (s ++ rest)) (length (s ++ rest)) (omega (arith, is, size-before, length-append s rest))
 
     entry-before : recordEntry little (s ++ rest) ≡ recordEntry little s
     unfolding recordEntry
     entry-before =
-        let enough = whole-size s (is .0) .0 in
-        let same = same-before s rest 16 enough in
+        let same = same-before s rest 16 long-enough in
         let stored = number-same 16 (s ++ rest) s same little 8 (omega arith) in
         let original = number-same 16 (s ++ rest) s same little 12 (omega arith) in
-        let many : length (drop 16 s) ≡ storedOf little s = omega (arith, length-drop 16 s, is .1) in
+        let many : length (drop 16 s) ≡ storedOf little s = omega (arith, length-drop 16 s, is) in
         let octets : take (storedOf little s) (drop 16 s) ≡ drop 16 s = ap (take (storedOf little s)) (sym (append-nil (drop 16 s))) ∙ take-at (drop 16 s) [] (storedOf little s) many in
-        rw (stored, original, drop-append-le 16 s rest enough, take-at (drop 16 s) rest (storedOf little s) many, octets)
+        rw (stored, original, drop-append-le 16 s rest long-enough, take-at (drop 16 s) rest (storedOf little s) many, octets)
 
     pub record-before : entries little (s ++ rest) ≡ recordEntry little s ∷ entries little rest
-    record-before = first-entry (s ++ rest) whole-before ∙ rw (entry-before, size-before, drop-at s rest (recordSize little s) (is .1))
+    record-before = first-entry (s ++ rest) whole-before ∙ rw (entry-before, size-before, drop-at s rest (recordSize little s) is)
 
-  pub records-before : (parts : List (List ℕ)) (rest : List ℕ) → AreRecords little parts → entries little (joined parts ++ rest) ≡ recordEntries little parts ++ entries little rest
+  pub records-before : (parts : List (List ℕ)) (rest : List ℕ) → AreRecords little parts → entries little (joined parts ++ rest) ≡ map (recordEntry little) parts ++ entries little rest
   records-before [] rest are = refl
   records-before (s ∷ parts) rest are =
       rw (append-assoc s (joined parts) rest) (record-before s (joined parts ++ rest) (are .0) ∙ ap (λ (x : List Entry). recordEntry little s ∷ x) (records-before parts rest (are .1)))
@@ -99,36 +97,33 @@ module _ (little : Bool) where
     pub tail : List ℕ
     pub records : AreRecords little parts
     pub whole : joined parts ++ tail ≡ s
-    pub cut : 0 < length tail → isWhole little tail ≡ false
+    pub inside : 0 < length tail → isWhole little tail ≡ false
 
   first-record : (s : List ℕ) → isWhole little s ≡ true → IsRecord little (take (recordSize little s) s)
-  unfolding isWhole
   first-record s is =
-      let size = whole-size s is in
       let part = take (recordSize little s) s in
-      let many : length part ≡ recordSize little s = length-take-le (recordSize little s) s (size .1) in
+      let many : length part ≡ recordSize little s = length-take-le (recordSize little s) s (whole-size s is) in
       let stored : storedOf little part ≡ storedOf little s = number-same 16 part s (λ i h. getD-take (recordSize little s) s i 0 (omega arith)) little 8 (omega arith) in
-      (rw (le-leb 16 (length part) (omega (arith, many)), le-leb (recordSize little part) (length part) (omega (arith, many, stored))), many ∙ rw stored)
+      many ∙ rw stored
 
   split : (most : ℕ) (s : List ℕ) → length s ≤ most → Split s
-  split zero s h = record { parts = []; tail = s; records = tt; whole = refl; cut = λ some. absurd (omega arith) }
+  split zero s h = record { parts = []; tail = s; records = tt; whole = refl; inside = λ some. absurd (omega arith) }
   split (suc most) s h =
       whether (isWhole little s)
       (λ is.
-      let size = whole-size s is in
       let next = split most (drop (recordSize little s) s) (omega (arith, length-drop (recordSize little s) s)) in
       record {
         parts = take (recordSize little s) s ∷ next .parts;
         tail = next .tail;
         records = (first-record s is, next .records);
         whole = append-assoc (take (recordSize little s) s) (joined (next .parts)) (next .tail) ∙ rw (next .whole) (take-append-drop (recordSize little s) s);
-        cut = next .cut;
+        inside = next .inside;
       })
-      (λ not. record { parts = []; tail = s; records = tt; whole = refl; cut = λ _. not })
+      (λ not. record { parts = []; tail = s; records = tt; whole = refl; inside = λ _. not })
 
 -- ---- what the entries of records are not
 
--- "17 before 1", and 1 to 8 of the frame's reader
+-- the frame's reader answers 1 to 8
 frame-answer : (f : List ℕ) (answer : ℕ) → 8 < answer → isRefusal answer (entryOf (decode f)) ≡ false
 frame-answer f answer h = go (decode f) refl
   where
@@ -141,36 +136,10 @@ unfolding recordEntry
 record-answer little s answer h other =
     by-cond (λ (entry : Entry). isRefusal answer entry ≡ false) (ltb (storedOf little s) (originalOf little s)) (λ _. ne-eqb 17 answer other) (λ _. frame-answer _ answer h)
 
-no-record-answers : (little : Bool) (parts : List (List ℕ)) (answer : ℕ) → 8 < answer → (17 ≡ answer → ⊥) → without answer (recordEntries little parts) ≡ true
+no-record-answers : (little : Bool) (parts : List (List ℕ)) (answer : ℕ) → 8 < answer → (17 ≡ answer → ⊥) → without answer (map (recordEntry little) parts) ≡ true
 no-record-answers little [] answer h other = refl
 no-record-answers little (s ∷ parts) answer h other = rw (record-answer little s answer h other, no-record-answers little parts answer h other)
 
--- ---- the theorems
-
--- 18 is in no row of octets that end at a record's end
-pub no-18 : (little : Bool) (s : List ℕ) → EndsAtRecord little s → without 18 (entries little s) ≡ true
-no-18 little s ends =
-    let rows : entries little s ≡ recordEntries little (ends .parts) =
-    ap (entries little) (sym (append-nil (joined (ends .parts)) ∙ ends .whole)) ∙ records-before little (ends .parts) [] (ends .records)
-    ∙ rw (no-entry little) (append-nil (recordEntries little (ends .parts))) in
-    rw rows (no-record-answers little (ends .parts) 18 (omega arith) (λ e. absurd (omega (arith, e))))
-
--- of others it is in the last row and in no other
-pub last-is-18 : (little : Bool) (s : List ℕ) → (EndsAtRecord little s → ⊥) → OnlyLast 18 (entries little s)
-last-is-18 little s inside =
-    let t = split little (length s) s (omega arith) in
-    record {
-      before = recordEntries little (t .parts);
-      others = no-record-answers little (t .parts) 18 (omega arith) (λ e. absurd (omega (arith, e)));
-      all =
-          ap (entries little) (sym (t .whole)) ∙ records-before little (t .parts) (t .tail) (t .records)
-          ∙ by-bound 0 (length (t .tail))
-          (λ some. rw (cut-entry little (t .tail) some (t .cut some)))
-          (λ none.
-          absurd (inside (record { parts = t .parts; records = t .records; whole = sym (append-nil (joined (t .parts))) ∙ rw (empty (t .tail) (omega arith)) at (t .whole) })));
-    }
-
--- 16 is in no row of a record
 no-16-up-to : (most : ℕ) (little : Bool) (s : List ℕ) → without 16 (entriesUpTo most little s) ≡ true
 unfolding entriesUpTo
 no-16-up-to zero little s = refl
@@ -180,11 +149,40 @@ no-16-up-to (suc most) little (c ∷ s) =
     (λ _. rw (record-answer little (c ∷ s) 16 (omega arith) (λ e. absurd (omega (arith, e))), no-16-up-to most little (drop (recordSize little (c ∷ s)) (c ∷ s))))
     (λ _. refl)
 
-pub no-16 : (little : Bool) (s : List ℕ) → without 16 (entries little s) ≡ true
-unfolding entries
-no-16 little s = no-16-up-to (length s) little s
+-- ---- the theorems
 
--- a file header that is not taken: the listing's header, and line 0
-pub line-0-only : (input : List ℕ) → isCapture input ≡ false → captureListing input ≡ header ++ rowOf 0 (Refused 16)
-unfolding captureListing
-line-0-only input not = rw not
+module _ (input : List ℕ) where
+  -- 16 means the listing's header and one row, and no other row is 16
+  pub line-0-only : isCapture input ≡ false → captureListing input ≡ header ++ rowOf 0 (Refused 16)
+  unfolding captureListing
+  line-0-only not = rw not
+
+  pub no-16 : isCapture input ≡ true → (captureListing input ≡ header ++ numbered 1 (entriesIn input)) × (without 16 (entriesIn input) ≡ true)
+  unfolding captureListing entries
+  no-16 is = (rw is, no-16-up-to (length (recordsIn input)) (isLittle input) (recordsIn input))
+
+  -- 18 is in no row where the input ends at a record's end
+  pub no-18 : EndsAtRecord input → without 18 (entriesIn input) ≡ true
+  no-18 ends =
+      let little = isLittle input in
+      let rows : entriesIn input ≡ map (recordEntry little) (ends .parts) =
+      ap (entries little) (sym (append-nil (joined (ends .parts)) ∙ ends .whole)) ∙ records-before little (ends .parts) [] (ends .records)
+      ∙ rw (no-entry little) (append-nil (map (recordEntry little) (ends .parts))) in
+      rw rows (no-record-answers little (ends .parts) 18 (omega arith) (λ e. absurd (omega (arith, e))))
+
+  -- where it does not, 18 is in the last row and in no other
+  pub last-is-18 : (EndsAtRecord input → ⊥) → OnlyLast 18 (entriesIn input)
+  last-is-18 elsewhere =
+      let little = isLittle input in
+      let t = split little (length (recordsIn input)) (recordsIn input) (omega arith) in
+      record {
+        before = map (recordEntry little) (t .parts);
+        others = no-record-answers little (t .parts) 18 (omega arith) (λ e. absurd (omega (arith, e)));
+        all =
+            ap (entries little) (sym (t .whole)) ∙ records-before little (t .parts) (t .tail) (t .records)
+            ∙ by-bound 0 (length (t .tail))
+            (λ some. rw (inside-entry little (t .tail) some (t .inside some)))
+            (λ none.
+            absurd
+            (elsewhere (record { parts = t .parts; records = t .records; whole = sym (append-nil (joined (t .parts))) ∙ rw (empty (t .tail) (omega arith)) at (t .whole) })));
+      }

@@ -14,7 +14,7 @@ use Rattle.text.specs.Pieces.{toSay}
 use Rattle.text_captures.specs.declared.progress.Awaited.{Awaited}
 use Rattle.text_captures.specs.declared.progress.Awaited.the-variants.{FileHeader, RecordHeader, Frame, Nothing}
 use Rattle.text_captures.specs.declared.progress.Progress.{Progress}
-use Rattle.text_captures.specs.Feeding.{wanted, isStopped, ahead, withFilled, afterFileHeader, afterRecordHeader, afterFrame, actedBy, acted, rowSaid, lastOf, State, captures}
+use Rattle.text_captures.specs.Feeding.{wanted, isStopped, ahead, withFilled, afterFileHeader, afterRecordHeader, afterFrame, actedBy, acted, rowSaid, leftToSay, State, captures}
 
 abbrev at : Progress → List ℕ → State
 at p f = record { progress = p; frame = f }
@@ -62,7 +62,7 @@ awaited-come s p f n going is some enough = ap (toSay captures (at p f)) (sym (t
 
 -- too few
 pub few-come : (octets : List ℕ) (p : Progress) (f : List ℕ) → isStopped (p .awaited) ≡ false → p .filled + length octets < wanted (p .awaited) (p .stored)
-    → toSay captures (at p f) octets ≡ rowSaid (p .number) (lastOf (withFilled p (p .filled + length octets)))
+    → toSay captures (at p f) octets ≡ rowSaid (p .number) (leftToSay (withFilled p (p .filled + length octets)))
 unfolding toSay
 few-come [] p f going few = rw (add-zero (p .filled))
 few-come (c ∷ octets) p f going few =

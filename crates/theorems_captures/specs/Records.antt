@@ -1,18 +1,20 @@
--- Octets that are records, one after another and nothing else.
+-- Octets that are records, one after another and nothing else; and what is listed of a file's.
 use Prim.Native.Nat.{ℕ}
 use mathlib.Core.Path.{_≡_}
 use mathlib.Core.Bool.{Bool, true, false, not}
 use mathlib.Core.List.{List, [], _∷_, _++_}
 use lib.Dec.{eqb}
-use lib.ListN.{length}
+use lib.ListN.{length, drop}
 use Rattle.octets.specs.Tests.{every}
 use Rattle.text_listing.specs.declared.row.Entry.{Entry}
 use Rattle.text_listing.specs.declared.row.Entry.the-variants.{Accepted, Refused}
-use Rattle.text_captures.specs.Captures.{recordSize, isWhole, recordEntry}
+use Rattle.text_captures.specs.Captures.{fileHeader, isLittle, recordSize, entries}
 
--- one record, whole, and nothing after it
+-- ---- records
+
+-- as many octets as the first record has
 abbrev pub IsRecord : Bool → List ℕ → Type 0
-IsRecord little s = (isWhole little s ≡ true) × (length s ≡ recordSize little s)
+IsRecord little s = length s ≡ recordSize little s
 
 abbrev pub AreRecords : Bool → List (List ℕ) → Type 0
 AreRecords little [] = Unit {0}
@@ -22,11 +24,21 @@ abbrev pub joined : List (List ℕ) → List ℕ
 joined [] = []
 joined (s ∷ rest) = s ++ joined rest
 
--- the octets end at a record's end
-pub record EndsAtRecord (little : Bool) (s : List ℕ) : Type 0 where
+-- the octets after a file's header
+abbrev pub recordsIn : List ℕ → List ℕ
+recordsIn input = drop fileHeader input
+
+-- an input ends at a record's end
+pub record EndsAtRecord (input : List ℕ) : Type 0 where
   pub parts : List (List ℕ)
-  pub records : AreRecords little parts
-  pub whole : joined parts ≡ s
+  pub records : AreRecords (isLittle input) parts
+  pub whole : joined parts ≡ recordsIn input
+
+-- ---- entries
+
+-- those of a file's records
+abbrev pub entriesIn : List ℕ → List Entry
+entriesIn input = entries (isLittle input) (recordsIn input)
 
 -- whether an entry is that refusal
 abbrev pub isRefusal : ℕ → Entry → Bool
@@ -42,8 +54,3 @@ pub record OnlyLast (answer : ℕ) (rows : List Entry) : Type 0 where
   pub before : List Entry
   pub others : without answer before ≡ true
   pub all : rows ≡ before ++ (Refused answer ∷ [])
-
--- what records' rows say of them, in order
-abbrev pub recordEntries : Bool → List (List ℕ) → List Entry
-recordEntries little [] = []
-recordEntries little (s ∷ rest) = recordEntry little s ∷ recordEntries little rest

@@ -2,11 +2,7 @@
 use Prim.Native.Nat.{ℕ}
 use mathlib.Core.List.{List}
 use Rattle.text.specs.Pieces.{Call, Run, runOf}
-use Rattle.text_captures.specs.Feeding.{begun, State, rowSaid, lastOf, captures}
+use Rattle.text_captures.specs.Feeding.{begun, State, captures}
 
 abbrev pub run : List ℕ → List ℕ → List Call → Run State
 run frame input calls = runOf captures (record { progress = begun; frame = frame }) input calls
-
--- what `finish` says where it has room
-abbrev pub lastRow : State → List ℕ
-lastRow s = rowSaid (s .progress .number) (lastOf (s .progress))

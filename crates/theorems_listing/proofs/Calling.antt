@@ -13,7 +13,7 @@ use Rattle.text_listing.specs.declared.feeding.Place.{Place}
 use Rattle.text_listing.specs.Feeding.{State, lister, Feeds}
 
 -- octets that were stored are read from where they stand
-stored-there : (out : List ℕ) (at : ℕ) (text : List ℕ) → at + length text ≤ length out → take (length text) (drop at (sets out at text)) ≡ text
+pub stored-there : (out : List ℕ) (at : ℕ) (text : List ℕ) → at + length text ≤ length out → take (length text) (drop at (sets out at text)) ≡ text
 stored-there out at text h =
     ap (λ (x : List ℕ). take (length text) (drop at x)) (sets-eq text out at h ∙ append-assoc (take at out) text _)
     ∙ ap (take (length text)) (drop-at (take at out) _ at (length-take-le at out (omega arith)))

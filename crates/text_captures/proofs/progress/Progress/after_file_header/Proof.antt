@@ -11,7 +11,7 @@ returns c = simp (c .stops-with .ensures, lt-ltb _ _ (c .before .if1 .taken))
 
 returns-2 : tie.Need-returns-2
 unfolding afterFileHeader
-returns-2 c = simp (c .onward .ensures, sym (c .before .before .is-capture .ensures) ∙ c .before .if2 .taken, c .before .before .before .is-little .ensures, le-ltb _ _ (c .before .before .before .before .if1 .left))
+returns-2 c = simp (c .awaiting-record .ensures, sym (c .before .before .is-capture .ensures) ∙ c .before .if2 .taken, c .before .before .before .is-little .ensures, le-ltb _ _ (c .before .before .before .before .if1 .left))
 
 returns-3 : tie.Need-returns-3
 unfolding afterFileHeader
