@@ -4,7 +4,7 @@
 /// A row in which two listings differ; a listing that has ended has no row.
 #[derive(Debug, PartialEq, Eq)]
 pub struct Difference<'a> {
-    /// The input line's number; 0 is the listing's header.
+    /// The number of the input's line or record; 0 is the listing's header.
     pub line: usize,
     pub expected: Option<&'a [u8]>,
     pub found: Option<&'a [u8]>,
@@ -85,7 +85,13 @@ pub fn last_lines(lines: impl Iterator<Item = String>) -> Vec<String> {
 
 /// Octets as a line of the lister's input.
 pub fn hex(octets: &[u8]) -> String {
-    octets.iter().map(|octet| format!("{octet:02x}")).collect()
+    const DIGITS: &[u8; 16] = b"0123456789abcdef";
+    let mut text = String::with_capacity(2 * octets.len());
+    for octet in octets {
+        text.push(DIGITS[usize::from(octet >> 4)].into());
+        text.push(DIGITS[usize::from(octet & 15)].into());
+    }
+    text
 }
 
 /// A number with its thousands parted, as the paper writes them.

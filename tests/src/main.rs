@@ -4,7 +4,8 @@
 //! ```text
 //! cargo test --release                     the package's own tests
 //! cargo run --release -- lister PROGRAM    is PROGRAM the paper's lister?
-//! cargo run --release -- speed PROGRAM     how fast is it?
+//! cargo run --release -- captures PROGRAM  is PROGRAM the paper's lister of captures?
+//! cargo run --release -- speed PROGRAM     how fast is a lister?
 //! ```
 //!
 //! Those that try the archive liboam.a are built with the feature `archive`, and

@@ -1,22 +1,39 @@
-//! The hand-written lister, to whose speed the product's is compared. It reads
-//! in pieces and holds one working frame, so that its memory does not grow with
-//! the input. It is apart from `paper::listing`: lines, digits and rows are handled
-//! here, and a frame's answer comes from `by_hand`.
+//! The hand-written listers, to whose speed the product's are compared. They read in
+//! pieces and hold one working frame, so that their memory does not grow with the input.
+//! They are apart from `paper`: lines, digits, records and rows are handled here, and a
+//! frame's answer comes from `by_hand`.
+
+mod captures;
+mod lines;
+
+pub use captures::Captures;
+pub use lines::Lines;
 
 use crate::by_hand;
-use crate::paper::{answer, HEADER, LONGEST};
+use crate::paper::HEADER;
 use std::io::{self, ErrorKind, Read, Write};
 
 /// Octets asked for by one read.
 pub const PIECE: usize = 64 * 1024;
 
+/// What takes an input in pieces and makes its rows.
+pub trait Listing {
+    fn feed(&mut self, piece: &[u8]);
+    /// The input is at its end.
+    fn finish(&mut self);
+    /// The rows not yet written.
+    fn rows(&mut self) -> &mut Rows;
+}
+
 /// Lists `input` on `output`.
-pub fn list(mut input: impl Read, mut output: impl Write) -> io::Result<()> {
-    let mut lister = Lister::new();
+pub fn list(
+    mut lister: impl Listing,
+    mut input: impl Read,
+    mut output: impl Write,
+) -> io::Result<()> {
     let mut piece = vec![0; PIECE];
     loop {
-        output.write_all(&lister.rows)?;
-        lister.rows.clear();
+        lister.rows().write_to(&mut output)?;
         match input.read(&mut piece) {
             Ok(0) => break,
             Ok(count) => lister.feed(&piece[..count]),
@@ -25,121 +42,52 @@ pub fn list(mut input: impl Read, mut output: impl Write) -> io::Result<()> {
         }
     }
     lister.finish();
-    output.write_all(&lister.rows)?;
+    lister.rows().write_to(&mut output)?;
     output.flush()
 }
 
-/// A line being read, and the rows not yet written.
-struct Lister {
-    frame: [u8; LONGEST],
-    /// Characters of the present line so far, foreign ones counted too.
-    characters: usize,
-    /// The present line holds a foreign digit.
-    foreign: bool,
-    /// Number of the present line.
-    number: u64,
-    rows: Vec<u8>,
-}
+/// Rows that wait to be written, the header before all.
+pub struct Rows(Vec<u8>);
 
-impl Lister {
+impl Rows {
     fn new() -> Self {
-        Lister {
-            frame: [0; LONGEST],
-            characters: 0,
-            foreign: false,
-            number: 1,
-            rows: HEADER.as_bytes().to_vec(),
-        }
+        Rows(HEADER.as_bytes().to_vec())
     }
 
-    fn feed(&mut self, piece: &[u8]) {
-        let mut rest = piece;
-        loop {
-            rest = self.take_octets(rest);
-            let Some((&character, after)) = rest.split_first() else {
-                return;
-            };
-            self.take_character(character);
-            rest = after;
-        }
+    fn write_to(&mut self, output: &mut impl Write) -> io::Result<()> {
+        output.write_all(&self.0)?;
+        self.0.clear();
+        Ok(())
     }
 
-    /// The input is at its end: a last line needs no newline.
-    fn finish(&mut self) {
-        if self.characters > 0 {
-            self.end_line();
+    /// The row of a frame with its answer, as `by_hand` answers.
+    #[inline(always)]
+    fn put(&mut self, number: u64, frame: &[u8], answer: u64) {
+        self.put_decimal(number);
+        if !by_hand::is_accepted(answer) {
+            return self.put_refusal(answer);
         }
+        let flags = u16::from_be_bytes([frame[15], frame[16]]);
+        self.0.push(b'\t');
+        self.put_decimal(frame[17].into());
+        self.0.push(b'\t');
+        self.put_decimal(flags.into());
+        self.0.extend_from_slice(b"\t0\t");
+        self.put_decimal(by_hand::skipped(answer));
+        self.0.push(b'\n');
     }
 
-    /// Takes the whole octets with which `piece` begins, as many as the frame has
-    /// room for, and gives what is behind them.
-    fn take_octets<'a>(&mut self, piece: &'a [u8]) -> &'a [u8] {
-        if self.characters % 2 == 1 {
-            return piece;
-        }
-        let room = &mut self.frame[LONGEST.min(self.characters / 2)..];
-        let mut taken = 0;
-        for (octet, pair) in room.iter_mut().zip(piece.chunks_exact(2)) {
-            let (high, low) = (value(pair[0]), value(pair[1]));
-            if (high | low) == FOREIGN {
-                break;
-            }
-            *octet = (high << 4) | low;
-            taken += 2;
-        }
-        self.characters += taken;
-        &piece[taken..]
+    /// The row of what is refused without being read.
+    fn put_refused(&mut self, number: u64, answer: u8) {
+        self.put_decimal(number);
+        self.put_refusal(answer.into());
     }
 
-    /// Takes what does not come as a whole octet into the frame: a newline, a foreign
-    /// digit, one of two digits that came with two pieces. What is beyond the frame
-    /// is counted only.
-    fn take_character(&mut self, character: u8) {
-        if character == b'\n' {
-            return self.end_line();
-        }
-        let value = value(character);
-        self.foreign |= value == FOREIGN;
-        if let Some(octet) = self.frame.get_mut(self.characters / 2) {
-            match self.characters % 2 {
-                0 => *octet = value << 4,
-                _ => *octet |= value,
-            }
-        }
-        self.characters += 1;
-    }
-
-    fn end_line(&mut self) {
-        let answer = self.answer();
-        self.put_decimal(self.number);
-        if by_hand::is_accepted(answer) {
-            let flags = u16::from_be_bytes([self.frame[15], self.frame[16]]);
-            self.rows.push(b'\t');
-            self.put_decimal(self.frame[17].into());
-            self.rows.push(b'\t');
-            self.put_decimal(flags.into());
-            self.rows.extend_from_slice(b"\t0\t");
-            self.put_decimal(by_hand::skipped(answer));
-            self.rows.push(b'\n');
-        } else {
-            self.rows.extend_from_slice(b"\t-\t-\t");
-            self.put_decimal(answer);
-            self.rows.extend_from_slice(b"\t-\n");
-        }
-        self.characters = 0;
-        self.foreign = false;
-        self.number += 1;
-    }
-
-    /// As `by_hand` answers.
-    fn answer(&self) -> u64 {
-        if self.foreign || self.characters % 2 == 1 {
-            return answer::TEXT.into();
-        }
-        match self.frame.get(..self.characters / 2) {
-            Some(frame) => by_hand::answer(frame),
-            None => answer::LENGTH.into(),
-        }
+    /// All but a row's number.
+    fn put_refusal(&mut self, answer: u64) {
+        self.0.extend_from_slice(b"\t-\t-\t");
+        self.put_decimal(answer);
+        self.0.extend_from_slice(b"\t-\n");
     }
 
     fn put_decimal(&mut self, number: u64) {
@@ -154,35 +102,15 @@ impl Lister {
                 break;
             }
         }
-        self.rows.extend_from_slice(&digits[start..]);
+        self.0.extend_from_slice(&digits[start..]);
     }
-}
-
-/// The value of a foreign digit; it covers whatever it is joined with.
-const FOREIGN: u8 = 0xFF;
-
-/// A character's value as a digit.
-fn value(character: u8) -> u8 {
-    DIGITS[usize::from(character)]
-}
-
-static DIGITS: [u8; 256] = digits();
-
-const fn digits() -> [u8; 256] {
-    let mut table = [FOREIGN; 256];
-    let text = b"0123456789abcdef";
-    let mut value = 0;
-    while value < text.len() {
-        table[text[value] as usize] = value as u8;
-        value += 1;
-    }
-    table
 }
 
 #[cfg(test)]
 mod tests {
     use super::*;
-    use crate::generate::mixed_lines;
+    use crate::generate::{any_record, capture as made_capture, every_edge, mixed_lines};
+    use crate::paper::capture::{self, Order};
     use crate::paper::listing;
     use crate::random::Random;
 
@@ -203,8 +131,12 @@ mod tests {
     }
 
     fn listed(input: &[u8], size: usize) -> Vec<u8> {
+        listed_by(Lines::default(), input, size)
+    }
+
+    fn listed_by(lister: impl Listing, input: &[u8], size: usize) -> Vec<u8> {
         let mut output = Vec::new();
-        list(InPieces { rest: input, size }, &mut output).expect("memory takes all");
+        list(lister, InPieces { rest: input, size }, &mut output).expect("memory takes all");
         output
     }
 
@@ -245,10 +177,43 @@ mod tests {
     #[test]
     fn decimals_have_no_leading_zeros() {
         for number in [0, 9, 10, 65_535, u64::MAX] {
-            let mut lister = Lister::new();
-            lister.rows.clear();
-            lister.put_decimal(number);
-            assert_eq!(lister.rows, number.to_string().as_bytes());
+            let mut rows = Rows(Vec::new());
+            rows.put_decimal(number);
+            assert_eq!(rows.0, number.to_string().as_bytes());
         }
+    }
+
+    #[test]
+    fn every_piece_size_gives_the_whole_listing_of_a_capture() {
+        let mut random = Random::new(9);
+        let mut records: Vec<_> = (0..20).map(|_| any_record(&mut random)).collect();
+        records.retain(|record| record.octets.len() < 3_000);
+        for order in Order::BOTH {
+            let file = made_capture(&mut random, order, &records);
+            for cut in [file.len(), file.len() - 1] {
+                let (file, expected) = (&file[..cut], capture::listing(&file[..cut]));
+                for size in (1..100).chain([1_000, 1_530, PIECE]) {
+                    assert_eq!(
+                        listed_by(Captures::default(), file, size),
+                        expected,
+                        "{size}"
+                    );
+                }
+            }
+        }
+    }
+
+    #[test]
+    fn captures_of_every_kind_give_the_whole_listing() {
+        let mut random = Random::new(9);
+        for edge in every_edge(&mut random) {
+            for size in [100, PIECE] {
+                let listed = listed_by(Captures::default(), &edge.file, size);
+                assert_eq!(listed, capture::listing(&edge.file), "{}", edge.name);
+            }
+        }
+        let records: Vec<_> = (0..20_000).map(|_| any_record(&mut random)).collect();
+        let file = made_capture(&mut random, Order::Little, &records);
+        assert!(listed_by(Captures::default(), &file, PIECE) == capture::listing(&file));
     }
 }

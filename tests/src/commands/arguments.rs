@@ -38,6 +38,13 @@ impl Arguments {
         }
     }
 
+    /// A program for each word, to be called without words.
+    #[cfg(feature = "archive")]
+    pub fn programs(&self) -> Vec<Program> {
+        let program = |path: &String| Program::new(path, &[]);
+        self.words.iter().map(program).collect()
+    }
+
     /// The option's number; the last one given counts.
     pub fn number(&self, option: &str) -> Option<u64> {
         let mut given = self.numbers.iter().rev();

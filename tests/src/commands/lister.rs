@@ -2,15 +2,14 @@
 //! for byte, over many frames and bad lines and several ways of feeding it.
 
 use super::arguments::Arguments;
-use super::process::{Program, Ran, TemporaryFile};
-use super::Outcome;
-use oam_tests::compare::{differences, grouped, hex, shortened, Difference};
+use super::process::Program;
+use super::trial::Trial;
+use super::{skipped, Outcome};
+use oam_tests::compare::{grouped, shortened};
 use oam_tests::generate::{any_frame, mixed_lines, of_frame, spoilt, Line};
-use oam_tests::paper::{answer, answers, code, lines, listing, Heading};
+use oam_tests::paper::{answer, answers, code, lines, listing};
 use oam_tests::random::{seed_from_clock, Random};
 use std::collections::BTreeMap;
-use std::ops::RangeInclusive;
-use std::time::Duration;
 
 #[cfg(test)]
 mod tests;
@@ -18,13 +17,8 @@ mod tests;
 const FRAMES: u64 = 200_000;
 /// Frames that are also fed octet by octet.
 const FEW_FRAMES: usize = 300;
-const LONGEST_PIECE: usize = 70_000;
 /// Empty lines, whose rows are many times longer than they are.
 const EMPTY_LINES: usize = 50_000;
-/// Differing rows that are shown.
-const SHOWN: usize = 5;
-/// How long a row may take that is awaited before the next line is fed.
-const PATIENCE: Duration = Duration::from_secs(20);
 
 pub fn run(arguments: &Arguments) -> Outcome {
     let program = arguments.program()?;
@@ -38,14 +32,29 @@ pub fn run(arguments: &Arguments) -> Outcome {
     check_claims(&few)?;
     let (many, few) = (joined(&many), joined(&few));
     Tally::of(&many).report()?;
-    let trial = Trial { program, seed };
-    trial.many(&many, &mut random)?;
+    let trial = trial(program, seed);
+    whole_input(&trial, &many, &mut random)?;
     trial.octet_by_octet(&few)?;
-    trial.short()?;
-    trial.tiny()?;
-    trial.live()?;
+    // Far more rows than an output of the input's length has room for.
+    trial.on_file("as empty lines", &[b'\n'; EMPTY_LINES])?;
+    let tiny = tiny_inputs();
+    let named = tiny
+        .iter()
+        .map(|input| (format!("{input:?}"), input.as_bytes()));
+    trial.each("tiny inputs", named)?;
+    live(&trial)?;
+    failing(&trial)?;
     println!("no difference");
     Ok(())
+}
+
+fn trial(program: Program, seed: u64) -> Trial {
+    Trial {
+        program,
+        seed,
+        listing,
+        listed,
+    }
 }
 
 /// Short lines of all kinds, for the feeding in single octets.
@@ -82,23 +91,12 @@ fn joined(lines: &[Line]) -> Vec<u8> {
     input
 }
 
-/// Numbers of skipped TLVs that must come, each with the codes of which it must.
-const SKIPPED: [(RangeInclusive<usize>, &[u8]); 6] = [
-    (0..=0, &code::ALL),
-    (1..=5, TLVS),
-    (6..=100, TLVS),
-    (101..=748, TLVS),
-    (748..=748, &[code::INFORMATION]),
-    (747..=747, &[code::NOTIFICATION]),
-];
-const TLVS: &[u8] = &[code::INFORMATION, code::NOTIFICATION];
-
 /// How often each answer was due, each code accepted, and such numbers of TLVs skipped.
 struct Tally {
     lines: usize,
     answers: BTreeMap<u8, usize>,
     codes: BTreeMap<u8, usize>,
-    skipped: [usize; SKIPPED.len()],
+    skipped: [usize; skipped::KINDS.len()],
 }
 
 impl Tally {
@@ -107,7 +105,7 @@ impl Tally {
             lines: 0,
             answers: answer::ALL.map(|answer| (answer, 0)).into(),
             codes: code::ALL.map(|code| (code, 0)).into(),
-            skipped: [0; SKIPPED.len()],
+            skipped: [0; skipped::KINDS.len()],
         };
         for answer in answers(input) {
             tally.lines += 1;
@@ -115,17 +113,10 @@ impl Tally {
             *tally.answers.entry(number).or_default() += 1;
             if let Ok(heading) = answer {
                 *tally.codes.entry(heading.code).or_default() += 1;
-                tally.count_skipped(&heading);
+                skipped::kinds(&heading).for_each(|kind| tally.skipped[kind] += 1);
             }
         }
         tally
-    }
-
-    fn count_skipped(&mut self, heading: &Heading) {
-        for (count, (range, codes)) in self.skipped.iter_mut().zip(&SKIPPED) {
-            let is_one = range.contains(&heading.skipped) && codes.contains(&heading.code);
-            *count += usize::from(is_one);
-        }
     }
 
     /// Shows the counts; one that is 0 is a failure.
@@ -138,9 +129,8 @@ impl Tally {
         for (code, count) in &self.codes {
             println!("  {:>9} of code {code:02X}", grouped(*count));
         }
-        for (count, (range, codes)) in self.skipped.iter().zip(&SKIPPED) {
-            let (count, codes) = (grouped(*count), hex(codes));
-            println!("  {count:>9} with {range:?} TLVs skipped, of codes {codes}");
+        for (kind, count) in self.skipped.iter().enumerate() {
+            println!("  {:>9} {}", grouped(*count), skipped::name(kind));
         }
         let counts = self.answers.values().chain(self.codes.values());
         if counts.chain(&self.skipped).any(|&count| count == 0) {
@@ -150,122 +140,42 @@ impl Tally {
     }
 }
 
-/// A program under trial, and the seed to repeat it.
-struct Trial {
-    program: Program,
-    seed: u64,
+/// The whole input: from a file, by one write, and in pieces of odd sizes; the last time
+/// without its last newline.
+fn whole_input(trial: &Trial, input: &[u8], random: &mut Random) -> Outcome {
+    trial.on_file("from a file", input)?;
+    trial.by_one_write(input)?;
+    let cut = input.strip_suffix(b"\n").unwrap_or(input);
+    trial.in_pieces("in pieces, without the last newline", cut, random)
 }
 
-impl Trial {
-    /// The whole input: from a file, by one write, and in pieces of odd sizes;
-    /// the last time without its last newline.
-    fn many(&self, input: &[u8], random: &mut Random) -> Outcome {
-        let file = TemporaryFile::holding("lines", input)?;
-        let ran = self.program.run_on_file(file.path())?;
-        self.judge("from a file", input, &ran)?;
-
-        let ran = self.program.run_on_pipe(input, || usize::MAX)?;
-        self.judge("by one write", input, &ran)?;
-
-        let cut = input.strip_suffix(b"\n").unwrap_or(input);
-        let ran = self
-            .program
-            .run_on_pipe(cut, || random.between(1, LONGEST_PIECE))?;
-        self.judge("in pieces, without the last newline", cut, &ran)
-    }
-
-    fn octet_by_octet(&self, input: &[u8]) -> Outcome {
-        let ran = self.program.run_on_pipe(input, || 1)?;
-        self.judge("octet by octet", input, &ran)
-    }
-
-    /// Far more rows than an output of the input's length has room for.
-    fn short(&self) -> Outcome {
-        let input = vec![b'\n'; EMPTY_LINES];
-        let file = TemporaryFile::holding("short", &input)?;
-        let ran = self.program.run_on_file(file.path())?;
-        self.judge("as empty lines", &input, &ran)
-    }
-
-    fn tiny(&self) -> Outcome {
-        let inputs = tiny_inputs();
-        for input in &inputs {
-            let ran = self.program.run_on_pipe(input.as_bytes(), || usize::MAX)?;
-            self.compare(&format!("{input:?}"), input.as_bytes(), &ran)?;
-        }
-        println!("agrees on {} tiny inputs", inputs.len());
-        Ok(())
-    }
-
-    /// A line's row is written before the next line is asked for, and the header
-    /// before the first.
-    fn live(&self) -> Outcome {
-        let lines = paper_lines().map(|line| format!("{line}\n"));
-        let pieces = lines.each_ref().map(|line| line.as_bytes());
-        let due = |fed: usize| listing(&pieces[..fed].concat());
-        let output = self
-            .program
-            .run_live(&pieces, |fed| due(fed).len(), PATIENCE)?;
-        if output != due(pieces.len()) {
-            let output = String::from_utf8_lossy(&output);
-            return Err(
-                format!("rows are kept back: before the input's end came {output:?}").into(),
-            );
-        }
-        println!("lists a live input as it comes");
-        Ok(())
-    }
-
-    fn judge(&self, feeding: &str, input: &[u8], ran: &Ran) -> Outcome {
-        self.compare(feeding, input, ran)?;
-        println!("agrees on {} octets fed {feeding}", grouped(input.len()));
-        Ok(())
-    }
-
-    /// Fails with all that is needed to see and to repeat a difference.
-    fn compare(&self, feeding: &str, input: &[u8], ran: &Ran) -> Outcome {
-        let expected = listing(input);
-        let differences: Vec<Difference> = differences(&expected, &ran.output).collect();
-        let mut faults: Vec<String> = differences
-            .iter()
-            .take(SHOWN)
-            .map(|difference| describe(difference, input))
-            .collect();
-        if differences.len() > SHOWN {
-            faults.push(format!("{} rows differ in all", grouped(differences.len())));
-        }
-        if !ran.status.success() {
-            faults.push(format!("the program ended with {}", ran.status));
-        }
-        if let Some(error) = &ran.unfed {
-            faults.push(format!("not all input could be written: {error}"));
-        }
-        if faults.is_empty() {
-            return Ok(());
-        }
-        let faults = faults.join("\n  ");
-        Err(format!(
-            "differs when fed {feeding} (seed {})\n  {faults}",
-            self.seed
-        )
-        .into())
-    }
+/// A line's row is written before the next line is asked for, and the header before the
+/// first.
+fn live(trial: &Trial) -> Outcome {
+    let lines = paper_lines().map(|line| format!("{line}\n"));
+    trial.live(&lines.each_ref().map(|line| line.as_bytes()), listing)?;
+    println!("lists a live input as it comes");
+    Ok(())
 }
 
-fn describe(difference: &Difference, input: &[u8]) -> String {
-    let shown = |row: Option<&[u8]>| row.map_or(String::from("(no row)"), shortened);
-    let line = match difference.line {
-        0 => String::from("(the header)"),
-        number => lines(input)
-            .nth(number - 1)
-            .map_or(String::from("(no line)"), shortened),
+/// A line that has not ended has no row where reading fails.
+fn failing(trial: &Trial) -> Outcome {
+    let [enable, other] = paper_lines();
+    let inputs = [
+        String::new(),
+        format!("{enable}\n"),
+        format!("{enable}\n{other}"),
+    ];
+    let ended = |input: &[u8]| {
+        let end = input.iter().rposition(|&octet| octet == b'\n');
+        listing(&input[..end.map_or(0, |end| end + 1)])
     };
-    format!(
-        "line {}: {line}\n    expected {}\n    found    {}",
-        difference.line,
-        shown(difference.expected),
-        shown(difference.found)
-    )
+    trial.failing(&inputs.each_ref().map(|input| input.as_bytes()), ended)
+}
+
+fn listed(input: &[u8], number: usize) -> String {
+    let line = lines(input).nth(number - 1);
+    line.map_or(String::from("(no line)"), shortened)
 }
 
 /// The paper's two lines: an enable, and a command that is none.

@@ -3,13 +3,16 @@
 #[cfg(feature = "archive")]
 mod archive;
 mod arguments;
+mod captures;
 #[cfg(feature = "archive")]
 mod figures;
 mod list;
 mod lister;
 mod machine;
 mod process;
+mod skipped;
 mod speed;
+mod trial;
 
 use arguments::Arguments;
 use oam_tests::trial::Report;
@@ -37,18 +40,39 @@ const ALL: &[Command] = &[
         run: lister::run,
     },
     Command {
+        name: "captures",
+        form: "PROGRAM [WORD ...] [--seed N] [--records N]",
+        purpose: "compare a capture lister's whole output with the paper's",
+        options: &["--seed", "--records"],
+        run: captures::run,
+    },
+    Command {
         name: "list",
         form: "",
         purpose: "list standard input with the hand-written lister",
         options: &[],
-        run: list::run,
+        run: list::lines,
+    },
+    Command {
+        name: "list_captures",
+        form: "",
+        purpose: "list a capture on standard input with the hand-written capture lister",
+        options: &[],
+        run: list::captures,
     },
     Command {
         name: "speed",
         form: "PROGRAM [WORD ...] [--seed N] [--megabytes N] [--runs N]",
         purpose: "compare a lister's speed with the hand-written one's and with tshark's",
         options: &["--seed", "--megabytes", "--runs"],
-        run: speed::run,
+        run: speed::lines,
+    },
+    Command {
+        name: "speed_captures",
+        form: "PROGRAM [WORD ...] [--seed N] [--megabytes N] [--runs N]",
+        purpose: "the same of a capture lister",
+        options: &["--seed", "--megabytes", "--runs"],
+        run: speed::captures,
     },
     Command {
         name: "machine",
@@ -91,7 +115,7 @@ const ALL: &[Command] = &[
     #[cfg(feature = "archive")]
     Command {
         name: "figures",
-        form: "[LISTER [WORD ...]] [--runs N]",
+        form: "[LISTER [CAPTURE_LISTER]] [--runs N]",
         purpose:
             "print the tables of docs/PERFORMANCE.md: the archive beside hand-written functions",
         options: &["--runs"],
@@ -126,11 +150,17 @@ pub fn run(mut given: impl Iterator<Item = String>) -> Outcome {
 
 /// Shows a trial's counts; what was wrong is a failure, with `how` to repeat it.
 fn told(report: &Report, how: &str) -> Outcome {
+    counted(report, how)?;
+    println!("no difference");
+    Ok(())
+}
+
+/// The same of counts that are not yet a trial's end.
+fn counted(report: &Report, how: &str) -> Outcome {
     for line in &report.counts {
         println!("{line}");
     }
     if report.faults.is_empty() {
-        println!("no difference");
         return Ok(());
     }
     let faults = report.faults.join("\n  ");

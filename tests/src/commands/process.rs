@@ -1,10 +1,16 @@
 //! Running a lister or another program as a process: fed from a file, through a
-//! pipe in pieces, or one piece after the answer to the last.
+//! pipe in pieces, one piece after the answer to the last, or from what cannot be read.
+
+mod memory;
+
+pub use memory::Memory;
 
 use std::error::Error;
 use std::fmt;
 use std::fs::{self, File};
 use std::io::{self, Read, Write};
+use std::os::fd::OwnedFd;
+use std::os::unix::net::UnixStream;
 use std::path::{Path, PathBuf};
 use std::process::{Child, Command, ExitStatus, Stdio};
 use std::sync::mpsc::{channel, Receiver};
@@ -32,6 +38,18 @@ pub struct Ran {
     pub status: ExitStatus,
     /// Why not all of its input could be written to it.
     pub unfed: Option<io::Error>,
+}
+
+#[cfg(test)]
+impl Ran {
+    /// A run without fault that wrote this.
+    pub fn of(output: Vec<u8>) -> Self {
+        Ran {
+            output,
+            status: Default::default(),
+            unfed: None,
+        }
+    }
 }
 
 impl Program {
@@ -83,18 +101,18 @@ impl Program {
 
     /// Runs the program and writes each piece to it only after it has written as
     /// many octets as `expected` gives for the pieces before. Gives what it wrote
-    /// before its input's end; where it keeps something back for longer than
-    /// `patience`, nothing more is fed.
+    /// before its input's end, and how it ended; where it keeps something back for
+    /// longer than `patience`, nothing more is fed.
     pub fn run_live(
         &self,
         pieces: &[&[u8]],
         expected: impl Fn(usize) -> usize,
         patience: Duration,
-    ) -> Result<Vec<u8>, Box<dyn Error>> {
+    ) -> Result<Ran, Box<dyn Error>> {
         let mut child = self.spawn(Stdio::piped(), Stdio::piped())?;
         let mut pipe = child.stdin.take().expect("standard input is a pipe");
         let written = octets_of(child.stdout.take().expect("standard output is a pipe"));
-        let mut output = Vec::new();
+        let (mut output, mut unfed) = (Vec::new(), None);
         'feeding: for fed in 0..=pieces.len() {
             while output.len() < expected(fed) {
                 match written.recv_timeout(patience) {
@@ -102,13 +120,82 @@ impl Program {
                     Err(_) => break 'feeding,
                 }
             }
-            if let Some(piece) = pieces.get(fed) {
-                pipe.write_all(piece)?;
+            let piece = pieces.get(fed).copied().unwrap_or_default();
+            if let Err(error) = pipe.write_all(piece) {
+                unfed = Some(error);
+                break;
             }
         }
         drop(pipe);
-        child.wait()?;
-        Ok(output)
+        Ok(Ran {
+            output,
+            status: child.wait()?,
+            unfed,
+        })
+    }
+
+    /// Runs the program, writes octets to it, so many zeros and other octets, and gives
+    /// also the most memory that it had taken when all of this was written.
+    pub fn run_measured(
+        &self,
+        before: &[u8],
+        zeros: usize,
+        behind: &[u8],
+    ) -> Result<(Ran, Memory), Box<dyn Error>> {
+        static ZEROS: [u8; 1 << 16] = [0; 1 << 16];
+        let mut child = self.spawn(Stdio::piped(), Stdio::piped())?;
+        let mut pipe = child.stdin.take().expect("standard input is a pipe");
+        pipe.write_all(before)?;
+        for _ in 0..zeros / ZEROS.len() {
+            pipe.write_all(&ZEROS)?;
+        }
+        pipe.write_all(&ZEROS[..zeros % ZEROS.len()])?;
+        pipe.write_all(behind)?;
+        let memory = Memory::of_process(child.id())?;
+        drop(pipe);
+        let ran = Ran {
+            output: read_output(&mut child)?,
+            status: child.wait()?,
+            unfed: None,
+        };
+        Ok((ran, memory))
+    }
+
+    /// Runs the program on a path that can be opened and not be read. Gives also what
+    /// it said on standard error.
+    pub fn run_on_unreadable(&self, path: &Path) -> Result<(Ran, String), Box<dyn Error>> {
+        self.run_heard(File::open(path)?.into())
+    }
+
+    /// The same on an input that gives these octets and then an error. A program that
+    /// tries again is given the input's end after `patience`.
+    pub fn run_on_failing(
+        &self,
+        octets: &[u8],
+        patience: Duration,
+    ) -> Result<(Ran, String), Box<dyn Error>> {
+        let (mut own, input) = UnixStream::pair()?;
+        own.write_all(octets)?;
+        input.set_nonblocking(true)?; // to read on where nothing waits is an error
+        thread::spawn(move || {
+            thread::sleep(patience);
+            drop(own);
+        });
+        self.run_heard(OwnedFd::from(input).into())
+    }
+
+    /// Runs the program to its end. Its output is short.
+    fn run_heard(&self, input: Stdio) -> Result<(Ran, String), Box<dyn Error>> {
+        let mut command = self.command(input, Stdio::piped());
+        let child = command.stderr(Stdio::piped()).spawn();
+        let ended = child.map_err(|error| self.not_run(error))?;
+        let ended = ended.wait_with_output()?;
+        let ran = Ran {
+            output: ended.stdout,
+            status: ended.status,
+            unfed: None,
+        };
+        Ok((ran, String::from_utf8_lossy(&ended.stderr).into_owned()))
     }
 
     /// The time of a run on a file, the output thrown away.
@@ -124,12 +211,18 @@ impl Program {
     }
 
     fn spawn(&self, input: Stdio, output: Stdio) -> Result<Child, Box<dyn Error>> {
-        Command::new(&self.path)
-            .args(&self.words)
-            .stdin(input)
-            .stdout(output)
-            .spawn()
-            .map_err(|error| format!("{}: {error}", self.path.display()).into())
+        let child = self.command(input, output).spawn();
+        child.map_err(|error| self.not_run(error))
+    }
+
+    fn command(&self, input: Stdio, output: Stdio) -> Command {
+        let mut command = Command::new(&self.path);
+        command.args(&self.words).stdin(input).stdout(output);
+        command
+    }
+
+    fn not_run(&self, error: io::Error) -> Box<dyn Error> {
+        format!("{}: {error}", self.path.display()).into()
     }
 }
 
@@ -235,14 +328,52 @@ mod tests {
         let echo = Program::new("cat", &[]);
         let pieces = [&b"one"[..], b"two"];
         let output = echo.run_live(&pieces, |fed| 3 * fed, Duration::from_secs(10));
-        assert_eq!(output.expect("ran"), b"onetwo");
+        assert_eq!(output.expect("ran").output, b"onetwo");
     }
 
     #[test]
     fn a_program_that_answers_at_the_end_is_not_waited_for() {
         let late = Program::new("sort", &[]);
         let output = late.run_live(&[b"one\n"], |fed| 4 * fed, Duration::from_millis(100));
-        assert_eq!(output.expect("ran"), b"");
+        assert_eq!(output.expect("ran").output, b"");
+    }
+
+    #[test]
+    fn what_is_kept_is_seen_to_take_memory() {
+        let octets = 1 << 24;
+        let [passing, keeping] = ["cat > /dev/null", "x=$(tr '\\0' a); exit 3"].map(|script| {
+            let words = ["-c", script].map(String::from);
+            let program = Program::new("sh", &words);
+            program
+                .run_measured(b"a", octets, b"b")
+                .expect("sh is there")
+        });
+        assert!(passing.0.status.success() && passing.0.output.is_empty());
+        assert_eq!(keeping.0.status.code(), Some(3));
+        assert!(passing.1.resident < octets / 2 && keeping.1.resident > octets / 2);
+        assert!(keeping.1.addressed > passing.1.addressed + octets / 2);
+    }
+
+    #[test]
+    fn an_input_that_fails_is_no_end() {
+        let cat = Program::new("cat", &[]);
+        let (ran, said) = cat
+            .run_on_failing(b"octets", Duration::from_secs(10))
+            .expect("cat is there");
+        assert_eq!(ran.output, b"octets");
+        assert!(!ran.status.success() && !said.is_empty());
+        let (ran, said) = cat.run_on_unreadable(Path::new("/")).expect("cat is there");
+        assert!(ran.output.is_empty() && !said.is_empty());
+    }
+
+    #[test]
+    fn a_program_that_takes_no_more_is_seen_to() {
+        let words = [String::from("-c1")];
+        let short = Program::new("head", &words);
+        let pieces = [&[b'a'; 1][..], &[b'b'; 1_000_000]];
+        let ran = short.run_live(&pieces, |fed| fed.min(1), Duration::from_secs(10));
+        let ran = ran.expect("head is there");
+        assert!(ran.output == b"a" && ran.unfed.is_some());
     }
 
     #[test]

@@ -3,6 +3,7 @@
 use super::messages::{any_code, descriptor};
 use super::valid::{loose, plain_or_loose};
 use super::{any_frame, encode, every_frame, Claim, Made};
+use crate::compare;
 use crate::paper::{answer, code, decode, read, Body, Message, LONGEST, SHORTEST};
 use crate::random::Random;
 
@@ -55,13 +56,7 @@ pub fn of_frame(made: Made) -> Line {
 }
 
 fn hex(frame: &[u8]) -> Vec<u8> {
-    const DIGITS: &[u8; 16] = b"0123456789abcdef";
-    let mut text = Vec::with_capacity(2 * frame.len());
-    for octet in frame {
-        text.push(DIGITS[usize::from(octet >> 4)]);
-        text.push(DIGITS[usize::from(octet & 15)]);
-    }
-    text
+    compare::hex(frame).into_bytes()
 }
 
 /// The frame's line with an odd number of digits, or with a foreign one.

@@ -1,12 +1,14 @@
-//! Makers of frames and lines. Each says what a reader must make of its frame,
+//! Makers of frames, lines and captures. Each says what a reader must make of its frame,
 //! where it can tell without reading the octets again; that claim is a check on
 //! the decoder of this package, which the decoder alone could not be.
 
 mod beyond;
+mod captures;
 mod containers;
 mod crowd;
 mod damage;
 mod drafts;
+mod edges;
 mod encode;
 mod every;
 mod lines;
@@ -14,6 +16,7 @@ mod log_lines;
 pub mod machine;
 mod messages;
 mod near;
+mod records;
 mod sequence;
 mod traffic;
 mod valid;
@@ -21,7 +24,9 @@ mod valid;
 #[cfg(test)]
 mod tests;
 
+pub use captures::{capture, record_header, usual_header, usual_record};
 pub use drafts::{any_draft, faults, DraftClaim, Fault, MadeDraft};
+pub use edges::{every_edge, Edge, Rows};
 pub use every::every_frame;
 pub use lines::{every_line, mixed_lines, of_frame, spoilt, Line};
 pub use log_lines::{
@@ -29,6 +34,7 @@ pub use log_lines::{
 };
 pub use messages::{any_code, any_message, Style};
 pub use near::near_plain;
+pub use records::{any_record, mixed_records, MadeRecord, Row};
 pub use traffic::{traffic_line, TRAFFIC};
 pub use valid::{loose, plain};
 

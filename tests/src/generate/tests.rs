@@ -7,6 +7,8 @@ use crate::paper::{
 };
 use std::collections::BTreeSet;
 
+mod captures;
+
 const TIMES: usize = 2_000;
 
 fn random() -> Random {

@@ -1,5 +1,6 @@
 //! The answer numbers (the paper's section of that name): of a reading, a writing
-//! or a line of text, and 11 to 13 and 15 of the machine alone.
+//! or a line of text, 11 to 13 and 15 of the machine alone, and 16 to 18 of captures
+//! alone (change request (vii)).
 
 /// The listing's number for an accepted frame.
 pub const ACCEPTED: u8 = 0;
@@ -35,6 +36,12 @@ pub const LIMIT: u8 = 13;
 pub const TEXT: u8 = 14;
 /// Role, mode or the peer's capability forbids.
 pub const FORBIDDEN: u8 = 15;
+/// A capture's file header is short, or of another magic number or link type.
+pub const FILE_HEADER: u8 = 16;
+/// A capture's record is cut short: its stored length is below its original length.
+pub const CUT_SHORT: u8 = 17;
+/// A capture ends inside a record or its header.
+pub const FILE_END: u8 = 18;
 
 /// Every answer that a line of the listing can show.
 pub const ALL: [u8; 10] = [

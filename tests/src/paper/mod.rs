@@ -1,8 +1,9 @@
 //! The paper's frames: their readings, their answers, their plain form, the two
-//! texts, listing and log, the link machine, and the windows over bad frames.
+//! texts, listing and log, captures, the link machine, and the windows over bad frames.
 
 pub mod answer;
 mod attribute;
+pub mod capture;
 mod container;
 mod draft;
 pub mod log;
@@ -32,6 +33,6 @@ pub use plain::is_plain;
 pub use read::{
     asked, check, read, Heading, BODY, DESTINATION, LONGEST, SHORTEST, SLOW_PROTOCOLS, SUBTYPE,
 };
-pub use text::{answers, decode, lines, listing, HEADER};
+pub use text::{answers, decode, lines, listing, row, HEADER};
 pub use walk::{EVENTS, INFORMATION_LENGTH};
 pub use write::{write, PLAIN_DATA, PLAIN_DESCRIPTORS, PLAIN_EVENTS};

@@ -52,7 +52,8 @@ fn answer_line(line: &[u8]) -> Result<Heading, u8> {
     check(&decode(line)?)
 }
 
-fn row(number: u64, answer: Result<Heading, u8>) -> String {
+/// A row: its number, and what it shows.
+pub fn row(number: u64, answer: Result<Heading, u8>) -> String {
     match answer {
         Ok(Heading {
             code,

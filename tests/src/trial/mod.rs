@@ -18,7 +18,7 @@ pub use log::log;
 pub use machine::machine;
 pub use pair::pair;
 pub use reading::reading;
-pub use report::Report;
+pub use report::{Report, Tally};
 pub use skipping::without_end;
 pub use writers::writers;
 

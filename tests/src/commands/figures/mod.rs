@@ -7,7 +7,8 @@ mod meter;
 mod stack;
 
 use super::arguments::Arguments;
-use super::speed::{self, Extent};
+use super::process::Program;
+use super::speed::{self, Extent, Form};
 use super::Outcome;
 use meter::{Counter, Instructions, Meter, Table};
 use oam_tests::compare::grouped;
@@ -28,14 +29,9 @@ const ARCHIVE: &str = concat!(env!("OAM_ARCHIVE_DIR"), "/liboam.a");
 pub fn run(arguments: &Arguments) -> Outcome {
     let runs = arguments.number("--runs").unwrap_or(RUNS).max(1) as usize;
     let runs = (!emulator::emulated()).then_some(runs);
-    match (runs, arguments.program()) {
-        (Some(_), Ok(program)) => {
-            println!("## The lister\n");
-            speed::show(&program, &Extent::with_seed(SEED))?;
-            println!();
-        }
-        (Some(_), Err(_)) => {}
-        (None, _) => println!("No times, and no lister: under an emulator a time says nothing."),
+    match runs {
+        Some(_) => show_listers(&arguments.programs())?,
+        None => println!("No times, and no lister: under an emulator a time says nothing."),
     }
     let mut table = Table {
         runs,
@@ -58,6 +54,23 @@ pub fn run(arguments: &Arguments) -> Outcome {
     show_stack(&stack::measure(SEED)?);
     println!("\n## Size\n");
     show_size(Path::new(ARCHIVE))
+}
+
+/// The lister, and the capture lister, as far as they are given.
+fn show_listers(programs: &[Program]) -> Outcome {
+    let titles = [
+        (Form::Lines, "The lister"),
+        (Form::Captures, "The capture lister"),
+    ];
+    if programs.len() > titles.len() {
+        return Err("at most a LISTER and a CAPTURE_LISTER are measured".into());
+    }
+    for ((form, title), program) in titles.into_iter().zip(programs) {
+        println!("## {title}\n");
+        speed::show(form, program, &Extent::with_seed(form, SEED))?;
+        println!();
+    }
+    Ok(())
 }
 
 // Instructions.

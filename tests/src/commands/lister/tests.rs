@@ -1,6 +1,7 @@
 //! The tally asks for what must come, and the comparison finds a lister with a slip.
 
 use super::*;
+use crate::commands::process::Ran;
 use oam_tests::paper::{decode, list, Listed, HEADER};
 use oam_tests::trial::without_end;
 
@@ -33,13 +34,8 @@ fn a_false_claim_is_found() {
 
 /// Whether the comparison finds that another output is not the listing.
 fn is_found(input: &[u8], output: Vec<u8>) -> bool {
-    let (program, seed) = (Program::new("none", &[]), 5);
-    let ran = Ran {
-        output,
-        status: Default::default(),
-        unfed: None,
-    };
-    let trial = Trial { program, seed };
+    let trial = trial(Program::new("none", &[]), 5);
+    let ran = Ran::of(output);
     trial.compare("at once", input, &ran).is_err()
 }
 

@@ -1,6 +1,6 @@
 //! A lister's instructions beside those of the hand-written one.
 
-use super::{by_hand, Traffic};
+use super::{Sides, Traffic};
 use crate::commands::process::{version, Program, TemporaryFile};
 use crate::commands::Outcome;
 use oam_tests::compare::grouped;
@@ -8,22 +8,24 @@ use oam_tests::measure::callgrind::{self, VALGRIND};
 use std::error::Error;
 use std::path::Path;
 
-/// Megabytes of lines.
+/// Megabytes of lines or of a capture.
 const MEGABYTES: u64 = 4;
 
-/// Prints what whole runs on lines of the mix take.
-pub fn compare(lister: &Program, seed: u64) -> Outcome {
+/// Prints what whole runs on the mix take.
+pub fn compare(sides: &Sides, seed: u64) -> Outcome {
     if version(VALGRIND).is_none() {
         println!("\nIts instructions are not counted: valgrind is not installed.");
         return Ok(());
     }
-    let input = Traffic::with_seed(seed, MEGABYTES).input;
+    let input = Traffic::with_seed(sides.form, seed, MEGABYTES).input;
     let file = TemporaryFile::holding("counted", &input)?;
-    let octets = grouped(input.len());
-    println!("\n| Lister, whole program on {octets} octets of the mix | Instructions | an octet |");
+    let (lister, octets) = (sides.form.lister(), grouped(input.len()));
+    println!(
+        "\n| {lister}, whole program on {octets} octets of the mix | Instructions | an octet |"
+    );
     println!("|---|---|---|");
     let mut counts = Vec::new();
-    for (name, program) in [("the program", lister), ("hand-written", &by_hand()?)] {
+    for (name, program) in sides.named() {
         let count = instructions(program, file.path())?;
         let each = count as f64 / input.len() as f64;
         println!("| {name} | {} | {each:.2} |", grouped(count as usize));

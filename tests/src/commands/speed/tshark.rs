@@ -1,10 +1,9 @@
 //! A lister's speed beside tshark's on the same frames.
 
-use super::capture::capture;
-use super::{middle, Traffic};
+use super::{middle, Form, Sides, Traffic};
 use crate::commands::process::{version, Program, TemporaryFile};
 use crate::commands::Outcome;
-use oam_tests::compare::{grouped, hex};
+use oam_tests::compare::grouped;
 use oam_tests::paper::{decode, lines};
 use std::error::Error;
 use std::path::Path;
@@ -22,17 +21,16 @@ const SHOWN: [&str; 3] = ["frame.number", "oampdu.code", "oampdu.flags"];
 
 /// Prints both speeds, and how tshark was run. Lines that are no octets have no
 /// place in a capture, so that neither side gets them.
-pub fn compare(lister: &Program, seed: u64) -> Outcome {
+pub fn compare(sides: &Sides, seed: u64) -> Outcome {
     let Some(version) = version(TSHARK) else {
         println!("\nNot beside tshark: it is not installed.");
         return Ok(());
     };
-    let input = Traffic::with_seed(seed, MEGABYTES).input;
+    let input = Traffic::with_seed(Form::Lines, seed, MEGABYTES).input;
     let frames: Vec<Vec<u8>> = lines(&input).filter_map(|line| decode(line).ok()).collect();
-    let text: String = frames.iter().map(|frame| hex(frame) + "\n").collect();
-    let listed = TemporaryFile::holding("listed", text.as_bytes())?;
-    let captured = TemporaryFile::holding("captured", &capture(&frames))?;
-    let empty = TemporaryFile::holding("empty", &capture(&[]))?;
+    let listed = TemporaryFile::holding("listed", &sides.form.holding(&frames))?;
+    let captured = TemporaryFile::holding("captured", &Form::Captures.holding(&frames))?;
+    let empty = TemporaryFile::holding("empty", &Form::Captures.holding(&[]))?;
     let (tshark, idle) = (tshark_on(captured.path()), tshark_on(empty.path()));
     same_count(&tshark, frames.len())?;
 
@@ -41,8 +39,9 @@ pub fn compare(lister: &Program, seed: u64) -> Outcome {
     let count = grouped(frames.len());
     println!("| On the same {count} frames of the mix | s, middle of {RUNS} runs | frames/s |");
     println!("|---|---|---|");
-    let own = seconds(lister, listed.path())?;
-    report("the lister, from lines", own, frames.len());
+    let own = seconds(sides.program, listed.path())?;
+    let lister = format!("the lister, from {}", sides.form.places());
+    report(&lister, own, frames.len());
     let other = seconds(&tshark, NOTHING.as_ref())?;
     report("tshark, from a capture", other, frames.len());
     let start = seconds(&idle, NOTHING.as_ref())?;
