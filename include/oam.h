@@ -21,7 +21,7 @@
  * octets stay as they were. A state is good for the build that made it: after an update make a fresh end
  * (oam_fresh) and report the link.
  */
-#define OAM_VERSION 7
+#define OAM_VERSION 8
 
 #include <stddef.h>
 #include <stdint.h>
