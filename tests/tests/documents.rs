@@ -295,7 +295,10 @@ fn not_tried<'a>(named: &[&'a str]) -> Vec<&'a str> {
     let mut known: Vec<String> = edits.collect();
     known.extend(stems(&repository().join("tests/definitions")));
     known.extend(crates);
-    known.extend(["lister", "log", "machine", "pair", "reading", "writers"].map(String::from));
+    let comparisons = [
+        "captures", "lister", "log", "machine", "pair", "reading", "writers",
+    ];
+    known.extend(comparisons.map(String::from));
     let unknown = named.iter().filter(|n| !known.iter().any(|k| k == *n));
     unknown.copied().collect()
 }

@@ -5,7 +5,7 @@
 // working frame, lent too, collects the file's header, each record's and each frame. With fewer than 1,514 octets it is too
 // short for some frames, whose rows then say 9; with fewer than a header has, 9 is the last row.
 mod feeding;
-mod number;
+mod headers;
 mod progress;
 
 pub use feeding::Place;

@@ -2,9 +2,12 @@
 ghost use mathlib.Core.Path.{_≡_};
 ghost use Prim.Native.Nat.{_≤_};
 ghost use lib.ListN.{length, set};
-ghost use Rattle.text_captures.specs.Captures.{isLittle, isCapture};
 ghost use Rattle.text_captures.specs.Feeding.{begun, wanted, isStopped, ahead, awaitingRecord, awaitingFrame, stopsWith, afterFileHeader, storedEntry, afterFrame, afterRecordHeader, acted, leftToSay, Collects};
-use crate::number::number;
+use crate::headers::FILE_HEADER;
+use crate::headers::RECORD_HEADER;
+use crate::headers::is_capture;
+use crate::headers::is_little;
+use crate::headers::number;
 use text_listing::Entry;
 
 // What of the file is awaited: its header, a record's header, a record's octets; or nothing any more.
@@ -42,34 +45,6 @@ pub struct Acted {
 pub struct Collected {
     pub progress: Progress,
     pub at: usize,
-}
-
-// The octets of a file's header and of a record's; the magic number, and the one link type that is read, Ethernet's.
-const FILE_HEADER: usize = 24;
-
-const RECORD_HEADER: usize = 16;
-
-const MAGIC: u32 = 0xa1b2c3d4;
-
-const LINK_TYPE: u32 = 1;
-
-// Whether a file's numbers are little-endian.
-fn is_little(header: &[u8]) -> bool
-    requires { ⌜ 24 ≤ length (now header) ⌝ }
-    ensures { λ r. ⌜ r ≡ isLittle (now (header .entry)) ⌝ }
-{
-    number(true, header, 0) == MAGIC
-}
-
-// Whether a file's header is one of a capture that is read here, with its numbers in that order.
-fn is_capture(little: bool, header: &[u8]) -> bool
-    requires { ⌜ (24 ≤ length (now header)) × (little ≡ isLittle (now header)) ⌝ }
-    ensures { λ r. ⌜ r ≡ isCapture (now (header .entry)) ⌝ }
-{
-    if number(little, header, 0) != MAGIC {
-        return false;
-    }
-    number(little, header, 20) == LINK_TYPE
 }
 
 // The entry of octets that are stored, of so many that there were.

@@ -4,8 +4,8 @@ use Rattle.octets.proofs.Numbers.{num-four}
 use Rattle.text_captures.specs.Captures.{number}
 use Rattle.text_captures.proofs.Orders.{joined-little}
 use borrow.Author.Needs.{needs}
-use Rattle.text_captures.proofs.number.number.Statement.{statement}
-use Rattle.text_captures.proofs.number.number.Tie as tie
+use Rattle.text_captures.proofs.headers.number.Statement.{statement}
+use Rattle.text_captures.proofs.headers.number.Tie as tie
 
 returns : tie.Need-returns
 unfolding number

@@ -1,7 +1,7 @@
 use borrow.Author.Needs.{needs}
 use Rattle.text_captures.specs.Captures.{isLittle}
-use Rattle.text_captures.proofs.progress.is_little.Statement.{statement}
-use Rattle.text_captures.proofs.progress.is_little.Tie as tie
+use Rattle.text_captures.proofs.headers.is_little.Statement.{statement}
+use Rattle.text_captures.proofs.headers.is_little.Tie as tie
 
 returns : tie.Need-returns
 unfolding isLittle

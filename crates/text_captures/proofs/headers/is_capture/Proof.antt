@@ -2,8 +2,8 @@ use borrow.Author.Tests.{eq-eqb, ne-eqb, le-leb}
 use mathlib.Core.Path.{_∙_, sym}
 use borrow.Author.Needs.{needs}
 use Rattle.text_captures.specs.Captures.{isCapture}
-use Rattle.text_captures.proofs.progress.is_capture.Statement.{statement}
-use Rattle.text_captures.proofs.progress.is_capture.Tie as tie
+use Rattle.text_captures.proofs.headers.is_capture.Statement.{statement}
+use Rattle.text_captures.proofs.headers.is_capture.Tie as tie
 
 returns : tie.Need-returns
 unfolding isCapture
