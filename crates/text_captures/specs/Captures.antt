@@ -58,7 +58,7 @@ originalOf little s = number little s 12
 abbrev pub recordSize : Bool → List ℕ → ℕ
 recordSize little s = recordHeader + storedOf little s
 
--- not "file ends inside a record or its header", which has 16 of its octets
+-- not "file ends inside a record or its header": a record has 16 octets or more, so a short header is never whole
 unfoldable pub isWhole : Bool → List ℕ → Bool
 isWhole little s = leb (recordSize little s) (length s)
 

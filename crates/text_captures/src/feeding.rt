@@ -32,8 +32,8 @@ fn put_said(out: &mut [u8], at: usize, number: u64, said: Said) -> usize
     }
 }
 
-// The piece's octets in order from a place on, with a row for each record after what waits in the output. It stops before the
-// last octet of a header or a record where the output may be too short for a row.
+// The piece's octets in order from a place on, with a row for each record, or for a file header that is refused, after what
+// waits in the output. It stops before the last octet of a header or a record where the output may be too short for a row.
 pub fn feed(place: Place, frame: &mut [u8], piece: &[u8], out: &mut [u8]) -> Place
     ensures { λ r. ⌜ Feeds place (now (frame .entry)) (now (piece .entry)) (now (out .entry)) r (now (frame .exit)) (now (out .exit)) ⌝ }
 {

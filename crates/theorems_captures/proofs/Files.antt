@@ -12,7 +12,7 @@ use Rattle.text.proofs.Bounds.{by-bound}
 use Rattle.text_listing.specs.Rows.{header}
 use Rattle.text_listing.specs.declared.row.Entry.the-variants.{Refused}
 use Rattle.text_captures.specs.Captures.{numLittle, number, magic, linkType, isLittle, isCapture, storedOf, originalOf, recordSize, isWhole, recordEntry, entries, numbered, captureListing}
-use Rattle.theorems_captures.specs.Files.{octLittle, fourOctets, FileRecord, Formed, AllFormed, recordOctets, allOctets, fileWith, fileOf, endingInside, entryFor, entriesFor}
+use Rattle.theorems_captures.specs.Files.{octLittle, fourOctets, FileRecord, Fitting, AllFitting, recordOctets, allOctets, fileWith, fileOf, endingInside, entryFor, entriesFor}
 use Rattle.theorems_captures.specs.Records.{IsRecord}
 use Rattle.theorems_captures.proofs.Records.{record-before, inside-entry, no-entry}
 use Rattle.theorems_captures.proofs.Numbers.{number-same}
@@ -44,7 +44,7 @@ four-read false v s at y h e = number-read 4 v s at y h e
 
 -- ---- a record
 
-module _ (little : Bool) (r : FileRecord) (formed : Formed r) where
+module _ (little : Bool) (r : FileRecord) (fitting : Fitting r) where
   abbrev s : List ℕ
   s = recordOctets little r
 
@@ -65,10 +65,10 @@ module _ (little : Bool) (r : FileRecord) (formed : Formed r) where
   at-16 = past s 12 4 (four (r .original)) _ (length-four little (r .original)) at-12
 
   stored-read : storedOf little s ≡ length (r .octets)
-  stored-read = four-read little (length (r .octets)) s 8 _ (formed .0) at-8
+  stored-read = four-read little (length (r .octets)) s 8 _ (fitting .0) at-8
 
   original-read : originalOf little s ≡ r .original
-  original-read = four-read little (r .original) s 12 _ (formed .1) at-12
+  original-read = four-read little (r .original) s 12 _ (fitting .1) at-12
 
   size : length s ≡ 16 + length (r .octets)
   size =
@@ -90,15 +90,15 @@ module _ (little : Bool) (r : FileRecord) (formed : Formed r) where
       let octets : take (length (r .octets)) (r .octets) ≡ r .octets = ap (take (length (r .octets))) (sym (append-nil (r .octets))) ∙ take-at (r .octets) [] (length (r .octets)) refl in
       rw (stored-read, original-read, at-16, octets)
 
-all-read : (little : Bool) (rs : List FileRecord) (rest : List ℕ) → AllFormed rs → entries little (allOctets little rs ++ rest) ≡ entriesFor rs ++ entries little rest
-all-read little [] rest formed = refl
-all-read little (r ∷ rs) rest formed =
+all-read : (little : Bool) (rs : List FileRecord) (rest : List ℕ) → AllFitting rs → entries little (allOctets little rs ++ rest) ≡ entriesFor rs ++ entries little rest
+all-read little [] rest fitting = refl
+all-read little (r ∷ rs) rest fitting =
     rw (append-assoc (recordOctets little r) (allOctets little rs) rest)
-    (record-before little (recordOctets little r) (allOctets little rs ++ rest) (is-record little r (formed .0))
-    ∙ rw (entry-read little r (formed .0), all-read little rs rest (formed .1)))
+    (record-before little (recordOctets little r) (allOctets little rs ++ rest) (is-record little r (fitting .0))
+    ∙ rw (entry-read little r (fitting .0), all-read little rs rest (fitting .1)))
 
 -- the first octets of a record: the file ends inside it
-module _ (little : Bool) (r : FileRecord) (count : ℕ) (formed : Formed r) (few : count < length (recordOctets little r)) where
+module _ (little : Bool) (r : FileRecord) (count : ℕ) (fitting : Fitting r) (few : count < length (recordOctets little r)) where
   abbrev part : List ℕ
   part = take count (recordOctets little r)
 
@@ -113,7 +113,7 @@ module _ (little : Bool) (r : FileRecord) (count : ℕ) (formed : Formed r) (few
       (λ short. lt-leb (recordSize little part) (length part) (omega (arith, many)))
       (λ enough.
       let stored : storedOf little part ≡ storedOf little s = number-same 16 part s (λ i h. getD-take count s i 0 (omega arith)) little 8 (omega arith) in
-      lt-leb (recordSize little part) (length part) (omega (arith, many, stored, is-record little r formed)))
+      lt-leb (recordSize little part) (length part) (omega (arith, many, stored, is-record little r fitting)))
 
   inside-read : 0 < count → entries little part ≡ Refused 18 ∷ []
   inside-read some = inside-entry little part (omega (arith, many)) not-whole
@@ -151,29 +151,29 @@ module _ (little : Bool) (between octets : List ℕ) (unread : length between �
 
 -- ---- the theorems
 
-module _ (little : Bool) (between : List ℕ) (rs : List FileRecord) (unread : length between ≡ 16) (formed : AllFormed rs) where
+module _ (little : Bool) (between : List ℕ) (rs : List FileRecord) (unread : length between ≡ 16) (fitting : AllFitting rs) where
   -- what was written is listed
   pub file-listed : captureListing (fileOf little between rs) ≡ header ++ numbered 1 (entriesFor rs)
   file-listed =
       let rows : entries little (allOctets little rs) ≡ entriesFor rs =
-      ap (entries little) (sym (append-nil (allOctets little rs))) ∙ all-read little rs [] formed ∙ rw (no-entry little) (append-nil (entriesFor rs)) in
+      ap (entries little) (sym (append-nil (allOctets little rs))) ∙ all-read little rs [] fitting ∙ rw (no-entry little) (append-nil (entriesFor rs)) in
       file-rows little between (allOctets little rs) unread ∙ rw rows
 
   -- the file ends inside a further record
-  pub inside-listed : (r : FileRecord) (count : ℕ) → Formed r → 0 < count → count < length (recordOctets little r)
+  pub inside-listed : (r : FileRecord) (count : ℕ) → Fitting r → 0 < count → count < length (recordOctets little r)
       → captureListing (endingInside little between rs r count) ≡ header ++ numbered 1 (entriesFor rs ++ (Refused 18 ∷ []))
   inside-listed r count one some few =
       file-rows little between (allOctets little rs ++ take count (recordOctets little r)) unread
-      ∙ rw (all-read little rs (take count (recordOctets little r)) formed, inside-read little r count one few some)
+      ∙ rw (all-read little rs (take count (recordOctets little r)) fitting, inside-read little r count one few some)
 
 -- the same records in the other byte order give the same listing
-module _ (between between' : List ℕ) (rs : List FileRecord) (unread : length between ≡ 16) (unread' : length between' ≡ 16) (formed : AllFormed rs) where
+module _ (between between' : List ℕ) (rs : List FileRecord) (unread : length between ≡ 16) (unread' : length between' ≡ 16) (fitting : AllFitting rs) where
   pub either-order : captureListing (fileOf true between rs) ≡ captureListing (fileOf false between' rs)
-  either-order = file-listed true between rs unread formed ∙ sym (file-listed false between' rs unread' formed)
+  either-order = file-listed true between rs unread fitting ∙ sym (file-listed false between' rs unread' fitting)
 
   -- also where the file ends inside a further one
-  pub either-order-inside : (r : FileRecord) (count : ℕ) → Formed r → 0 < count → count < 16 + length (r .octets)
+  pub either-order-inside : (r : FileRecord) (count : ℕ) → Fitting r → 0 < count → count < 16 + length (r .octets)
       → captureListing (endingInside true between rs r count) ≡ captureListing (endingInside false between' rs r count)
   either-order-inside r count one some few =
-      inside-listed true between rs unread formed r count one some (omega (arith, size true r one))
-      ∙ sym (inside-listed false between' rs unread' formed r count one some (omega (arith, size false r one)))
+      inside-listed true between rs unread fitting r count one some (omega (arith, size true r one))
+      ∙ sym (inside-listed false between' rs unread' fitting r count one some (omega (arith, size false r one)))

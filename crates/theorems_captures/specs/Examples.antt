@@ -53,10 +53,11 @@ files =
     (captureListing [] is (header ++ (48 ∷ tab ∷ 45 ∷ tab ∷ 45 ∷ tab ∷ 49 ∷ 54 ∷ tab ∷ 45 ∷ newline ∷ [])))
     ∷ (captureListing (take 23 (headed magic linkType)) is noCapture)
     ∷ (captureListing (headed magic linkType) is lists [])
-    -- nanoseconds; link types 2, and 1 with an FCS length
+    -- nanoseconds; link types 2, and 1 with what tells the length of an FCS, none and four octets
     ∷ (captureListing (headed 0xa1b2_3c4d linkType) is noCapture)
     ∷ (captureListing (headed magic 2) is noCapture)
     ∷ (captureListing (headed magic 0x0400_0001) is noCapture)
+    ∷ (captureListing (headed magic 0x2400_0001) is noCapture)
     -- "1", "4", "80", "0" and "0", parted by tabs
     ∷ (captureListing (one true 60 60) is (header ++ (49 ∷ tab ∷ 52 ∷ tab ∷ 56 ∷ 48 ∷ tab ∷ 48 ∷ tab ∷ 48 ∷ newline ∷ [])))
     ∷ (captureListing (one false 60 60) is lists (Accepted 4 80 0 ∷ []))

@@ -28,12 +28,12 @@ pub record FileRecord : Type 0 where
   pub original : ℕ
 
 -- its lengths are numbers of four octets
-abbrev pub Formed : FileRecord → Type 0
-Formed r = (length (r .octets) < 2 ^ 32) × (r .original < 2 ^ 32)
+abbrev pub Fitting : FileRecord → Type 0
+Fitting r = (length (r .octets) < 2 ^ 32) × (r .original < 2 ^ 32)
 
-abbrev pub AllFormed : List FileRecord → Type 0
-AllFormed [] = Unit {0}
-AllFormed (r ∷ rest) = Formed r × AllFormed rest
+abbrev pub AllFitting : List FileRecord → Type 0
+AllFitting [] = Unit {0}
+AllFitting (r ∷ rest) = Fitting r × AllFitting rest
 
 abbrev pub recordOctets : Bool → FileRecord → List ℕ
 recordOctets little r =

@@ -177,7 +177,15 @@ fn other_headers(random: &mut Random, order: Order) -> Vec<Edge> {
         0,
     ];
     // With an FCS length, in the other order, and of other links.
-    let link_types = [0x0400_0001, 0xF400_0001, 0x0100_0000, 0x0001_0001, 105, 276];
+    let link_types = [
+        0x0400_0001,
+        0x2400_0001,
+        0xF400_0001,
+        0x0100_0000,
+        0x0001_0001,
+        105,
+        276,
+    ];
     let mut edges = Vec::new();
     for (magic, link_type) in magics
         .map(|magic| (magic, ETHERNET))

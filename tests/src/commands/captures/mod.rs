@@ -19,7 +19,7 @@ use oam_tests::random::{seed_from_clock, Random};
 const RECORDS: u64 = 200_000;
 /// How often each row must come in each of the long files, however few records it has.
 const LEAST: usize = 1_000;
-/// Records that are also fed octet by octet, and the longest of them.
+/// Records that are fed octet by octet, and the longest of them.
 const FEW_RECORDS: usize = 300;
 const FEW_OCTETS: usize = 3_000;
 /// More than a pipe holds.

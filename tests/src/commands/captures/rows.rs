@@ -1,5 +1,5 @@
 //! The rows of captures: how often each came, and those of frames beside the rows that the
-//! first lister has for the same frames in lines.
+//! paper's listing has for the same frames in lines.
 
 use crate::commands::{skipped, Outcome};
 use oam_tests::compare::{differences, grouped, hex, shortened};
@@ -37,7 +37,7 @@ fn name(row: &Row) -> String {
     }
 }
 
-/// Compares the row of each frame that is read with the lister's row for the same frame in
+/// Compares the row of each frame that is read with the paper's row for the same frame in
 /// hexadecimal, all but its number. Gives how many there are.
 pub fn as_in_lines(file: &[u8], output: &[u8]) -> Result<usize, Box<dyn Error>> {
     let records = records(file).map_err(|answer| format!("no capture: {answer}"))?;
