@@ -88,11 +88,16 @@ storedEntry f stored original = cond (ltb stored original) (Refused 17) (lengthE
 unfoldable pub afterFrame : Progress → List ℕ → Acted
 afterFrame p f = record { progress = awaitingRecord p (p .little); said = Row (storedEntry f (p .stored) (p .original)) }
 
+-- the entry where no octet is stored: the same, of a frame that has none
+abbrev pub emptyEntry : ℕ → Entry
+emptyEntry original = cond (ltb 0 original) (Refused 17) (Refused 1)
+
 -- a record's header: where no octet is stored, the record is whole with it
 unfoldable pub afterRecordHeader : Progress → List ℕ → Acted
 afterRecordHeader p f =
     cond (ltb (length f) recordHeader) (stopsWith p 9)
-    (cond (eqb (storedOf (p .little) f) 0) (afterFrame (awaitingFrame p 0 (originalOf (p .little) f)) f)
+    (cond (eqb (storedOf (p .little) f) 0)
+    (record { progress = awaitingRecord p (p .little); said = Row (emptyEntry (originalOf (p .little) f)) })
     (record { progress = awaitingFrame p (storedOf (p .little) f) (originalOf (p .little) f); said = NoRow }))
 
 abbrev pub actedBy : Awaited → Progress → List ℕ → Acted

@@ -2,7 +2,7 @@
 ghost use mathlib.Core.Path.{_≡_};
 ghost use Prim.Native.Nat.{_≤_};
 ghost use lib.ListN.{length, set};
-ghost use Rattle.text_captures.specs.Feeding.{begun, wanted, isStopped, ahead, awaitingRecord, awaitingFrame, stopsWith, afterFileHeader, storedEntry, afterFrame, afterRecordHeader, acted, leftToSay, Collects};
+ghost use Rattle.text_captures.specs.Feeding.{begun, wanted, isStopped, ahead, awaitingRecord, awaitingFrame, stopsWith, afterFileHeader, storedEntry, emptyEntry, afterFrame, afterRecordHeader, acted, leftToSay, Collects};
 use crate::headers::FILE_HEADER;
 use crate::headers::RECORD_HEADER;
 use crate::headers::is_capture;
@@ -55,6 +55,16 @@ fn stored_entry(frame: &[u8], stored: u32, original: u32) -> Entry
         return Entry::Refused(17);
     }
     text_listing::length_entry(frame, stored as usize)
+}
+
+// The entry where no octet is stored, of so many that there were: a frame of no octets is too short.
+fn empty_entry(original: u32) -> Entry
+    ensures { λ r. ⌜ r ≡ emptyEntry original ⌝ }
+{
+    if 0 < original {
+        return Entry::Refused(17);
+    }
+    Entry::Refused(1)
 }
 
 impl Progress {
@@ -194,12 +204,15 @@ impl Progress {
             return self.stops_with(9);
         }
         let stored = number(self.little, frame, 8);
-        let progress = self.awaiting_frame(stored, number(self.little, frame, 12));
+        let original = number(self.little, frame, 12);
         if stored == 0 {
-            return progress.after_frame(frame);
+            return Acted {
+                progress: self.awaiting_record(self.little),
+                said: Said::Row(empty_entry(original)),
+            };
         }
         Acted {
-            progress,
+            progress: self.awaiting_frame(stored, original),
             said: Said::NoRow,
         }
     }

@@ -10,7 +10,7 @@ use lib.Dec.{eqb}
 use lib.ListN.{length, take, drop, length-drop}
 use lib.Seq.{sets, sets-eq, length-sets, take-at, length-take-le, drop-drop}
 use Rattle.octets.proofs.Bools.{whether}
-use Rattle.frame.specs.Frame.{decode}
+use Rattle.frame.specs.Frame.{headerAnswer, decode}
 use Rattle.text.specs.Pieces.{fedFrom, Call, toSay, Within, Able}
 use Rattle.text.proofs.Bounds.{by-bound}
 use Rattle.text_listing.specs.Rows.{entryOf, rowOf, rowRoom, header}
@@ -21,9 +21,9 @@ use Rattle.theorems_listing.proofs.Pieces.{said-whole, some-taken, taken-whole 
 use Rattle.theorems_listing.proofs.Texts.{too-long}
 use Rattle.text_captures.specs.declared.progress.Awaited.the-variants.{RecordHeader}
 use Rattle.text_captures.specs.declared.progress.Progress.{Progress}
-use Rattle.text_captures.specs.declared.progress.Said.the-variants.{NoRow}
+use Rattle.text_captures.specs.declared.progress.Said.the-variants.{NoRow, Row}
 use Rattle.text_captures.specs.Captures.{number, isLittle, isCapture, storedOf, originalOf, recordSize, isWhole, recordEntry, entriesUpTo, entries, numbered, captureListing}
-use Rattle.text_captures.specs.Feeding.{begun, isLast, awaitingFrame, awaitingNothing, afterFileHeader, afterFrame, afterRecordHeader, rowSaid, lastRow, State, captures}
+use Rattle.text_captures.specs.Feeding.{begun, isLast, awaitingFrame, awaitingNothing, afterFileHeader, emptyEntry, afterFrame, afterRecordHeader, rowSaid, lastRow, State, captures}
 use Rattle.theorems_captures.specs.Runs.{run}
 use Rattle.theorems_captures.proofs.Numbers.{number-same, little-of-same, capture-same, same-stored}
 use Rattle.theorems_captures.proofs.Sayings.{awaited-come, few-come, nothing-said}
@@ -77,7 +77,7 @@ module _ (n : ℕ) (little : Bool) (s : List ℕ) where
 
     -- its numbers are the file's
     after-header : afterRecordHeader (before n little) f'
-        ≡ cond (eqb stored 0) (afterFrame (awaitingFrame (before n little) 0 original) f') (record { progress = awaitingFrame (before n little) stored original; said = NoRow })
+        ≡ cond (eqb stored 0) (record { progress = before (following n) little; said = Row (emptyEntry original) }) (record { progress = awaitingFrame (before n little) stored original; said = NoRow })
     unfolding afterRecordHeader
     after-header =
         let same = same-stored f s 16 (omega arith) enough in
@@ -85,8 +85,8 @@ module _ (n : ℕ) (little : Bool) (s : List ℕ) where
 
     -- no octet is stored: the row comes with the header
     none-stored : stored ≡ 0 → sayFrom n little f s ≡ rowOf n (recordEntry little s) ++ sayFrom (following n) little f' (drop 16 s)
-    unfolding afterFrame recordEntry
-    none-stored none = header-come ∙ rw (after-header, none, stored-whole f' [] still-long)
+    unfolding recordEntry decode headerAnswer
+    none-stored none = header-come ∙ rw (after-header, none)
 
     -- some are: the row comes with the last of them
     some-stored : 0 < stored → sayFrom n little f s ≡ toSay captures (record { progress = awaitingFrame (before n little) stored original; frame = f' }) (drop 16 s)

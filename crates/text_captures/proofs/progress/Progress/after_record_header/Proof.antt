@@ -11,11 +11,11 @@ returns c = simp (c .stops-with .ensures, lt-ltb _ _ (c .before .if1 .taken))
 
 returns-2 : tie.Need-returns-2
 unfolding afterRecordHeader
-returns-2 c = simp (c .after-frame .ensures, eq-eqb _ _ (sym (c .before .before .before .before .number .ensures) ∙ c .before .if2 .taken), c .before .before .awaiting-frame .ensures, c .before .before .before .number2 .ensures, c .before .if2 .taken, le-ltb _ _ (c .before .before .before .before .before .if1 .left))
+returns-2 c = simp (c .empty-entry .ensures, c .before .awaiting-record .ensures, eq-eqb _ _ (sym (c .before .before .before .before .number .ensures) ∙ c .before .before .if2 .taken), c .before .before .before .number2 .ensures, le-ltb _ _ (c .before .before .before .before .before .if1 .left))
 
 returns-3 : tie.Need-returns-3
 unfolding afterRecordHeader
-returns-3 c = simp (ne-eqb _ _ (λ q. c .if2 .left (c .before .before .before .number .ensures ∙ q)), c .before .awaiting-frame .ensures, c .before .before .number2 .ensures, c .before .before .before .number .ensures, le-ltb _ _ (c .before .before .before .before .if1 .left))
+returns-3 c = simp (c .awaiting-frame .ensures, ne-eqb _ _ (λ q. c .before .if2 .left (c .before .before .before .number .ensures ∙ q)), c .before .before .number2 .ensures, c .before .before .before .number .ensures, le-ltb _ _ (c .before .before .before .before .if1 .left))
 
 pub after-record-header-spec : {M : Type 1} → statement M
-after-record-header-spec = tie.close (tie.spec (λ c κs. search needs) returns (λ c κs. search needs) (λ c κs. search needs) (λ c κs. search needs) (λ c κs. search needs) returns-2 returns-3)
+after-record-header-spec = tie.close (tie.spec (λ c κs. search needs) returns (λ c κs. search needs) (λ c κs. search needs) (λ c κs. search needs) (λ c κs. search needs) returns-2 (λ c κs. search needs) returns-3)
