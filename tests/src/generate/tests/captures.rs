@@ -111,10 +111,10 @@ fn every_edge_has_the_rows_that_its_maker_knows() {
         assert!(edge.holds(), "{}", edge.name);
     }
     let with = |rows: fn(&Rows) -> bool| edges.iter().filter(|edge| rows(&edge.rows)).count();
-    // Two orders: three files cut below 24 octets, 64 bits, twelve numbers; and one more.
+    // Two orders: three files cut below 24 octets, 64 bits, thirteen numbers; and one more.
     assert_eq!(
         with(|rows| *rows == Rows::NoCapture),
-        2 * (3 * 24 + 64 + 12) + 1
+        2 * (3 * 24 + 64 + 13) + 1
     );
     assert!(with(|rows| matches!(rows, Rows::Whole(_))) > 40);
     assert!(with(|rows| matches!(rows, Rows::Inside(_))) > 500);
