@@ -106,7 +106,7 @@ module _ (p : Progress) (f : List ℕ) (stopped : isStopped (p .awaited) ≡ tru
 
 -- ---- the last octet
 
-pub completed : (piece : List ℕ) (p : Progress) (f : List ℕ) (at waiting : ℕ) (out : List ℕ) {r : Acted} {f' : List ℕ} {waiting' : ℕ} {out' : List ℕ}
+completed : (piece : List ℕ) (p : Progress) (f : List ℕ) (at waiting : ℕ) (out : List ℕ) {r : Acted} {f' : List ℕ} {waiting' : ℕ} {out' : List ℕ}
     → isLast p ≡ true → at < length piece → rowRoom ≤ length out - waiting
     → f' ≡ set f (p .filled) (getD piece at 0) → r ≡ acted p f' → Stored (rowSaid (p .number) (r .said)) out waiting waiting' out'
     → goneOn captures piece (stage (record { progress = p; taken = at; waiting = waiting }) f out)

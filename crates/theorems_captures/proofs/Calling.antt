@@ -1,16 +1,16 @@
 -- What `feed` promises is a call of a run, and what `finish` promises its last row.
-use Prim.Native.Nat.{ℕ, _-_, _≤_}
+use Prim.Native.Nat.{ℕ, _≤_}
 use mathlib.Core.Path.{_≡_, refl, _∙_}
-use mathlib.Core.List.{List, _++_}
+use mathlib.Core.List.{List}
 use native.Mathlib.Omega.{arith}
 use borrow.Author.Tests.{le-ltb}
-use lib.ListN.{length, take, drop}
+use lib.ListN.{length, take}
 use lib.Seq.{sets}
-use Rattle.text.specs.Pieces.{called}
 use Rattle.text_listing.specs.Rows.{rowOf, rowRoom}
 use Rattle.text_listing.specs.Feeding.{octetsWritten}
 use Rattle.text_listing.specs.declared.feeding.Finished.{Finished}
 use Rattle.text_listing.specs.declared.feeding.Finished.the-variants.{Written}
+use Rattle.theorems_listing.specs.Runs.{IsCall}
 use Rattle.theorems_listing.proofs.Calling.{stored-there, stage-is-call}
 use Rattle.text_captures.specs.declared.progress.Progress.{Progress}
 use Rattle.text_captures.specs.declared.progress.Said.{Said}
@@ -19,13 +19,7 @@ use Rattle.text_captures.specs.declared.feeding.Place.{Place}
 use Rattle.text_captures.specs.Feeding.{leftToSay, lastRow, captures, stage, Feeds, Finishes}
 
 pub is-call : (p : Place) (f piece out rest said : List ℕ) {r : Place} {f' out' : List ℕ} → p .waiting ≤ length out → Feeds p f piece out r f' out'
-    → called captures (record { size = length (drop (p .taken) piece); room = length out - p .waiting })
-    (record { state = record { progress = p .progress; frame = f }; left = drop (p .taken) piece ++ rest; said = said })
-    ≡ record {
-      state = record { progress = r .progress; frame = f' };
-      left = drop (r .taken) piece ++ rest;
-      said = said ++ take (r .waiting - p .waiting) (drop (p .waiting) out');
-    }
+    → IsCall captures piece rest said (stage p f out) (stage r f' out')
 is-call p f piece out rest said fits feeds = stage-is-call captures piece rest said (stage p f out) (feeds .comes) (feeds .fits fits)
 
 -- the octets that `finish` has written, where it has room

@@ -9,7 +9,7 @@ use borrow.Author.Tests.{ne-eqb, le-ltb, le-leb, lt-leb}
 use lib.Dec.{eqb}
 use lib.ListN.{length, take, drop, length-drop}
 use lib.Seq.{sets, sets-eq, length-sets, take-at, length-take-le, drop-drop}
-use Rattle.octets.proofs.Bools.{whether}
+use Rattle.octets.proofs.Bools.{whether, by-cond}
 use Rattle.frame.specs.Frame.{headerAnswer, decode}
 use Rattle.text.specs.Pieces.{fedFrom, Call, toSay, Within, Able}
 use Rattle.text.proofs.Bounds.{by-bound}
@@ -31,7 +31,7 @@ use Rattle.theorems_captures.proofs.Sayings.{awaited-come, few-come, no
 -- ---- a record's octets, in a working frame that has room for any frame
 
 module _ (f octets : List ℕ) (long : 1514 ≤ length f) where
-  pub stored-whole : lengthEntry (sets f 0 octets) (length octets) ≡ entryOf (decode octets)
+  stored-whole : lengthEntry (sets f 0 octets) (length octets) ≡ entryOf (decode octets)
   stored-whole =
       let room = length-sets f 0 octets in
       by-bound 1514 (length octets)
@@ -107,15 +107,15 @@ module _ (n : ℕ) (little : Bool) (s : List ℕ) where
 
 -- whether a record is whole, by how many octets there are
 module _ (little : Bool) (s : List ℕ) where
-  pub short-header : length s < 16 → isWhole little s ≡ false
+  short-header : length s < 16 → isWhole little s ≡ false
   unfolding isWhole
   short-header few = lt-leb (recordSize little s) (length s) (omega arith)
 
-  pub short-octets : 16 ≤ length s → length (drop 16 s) < storedOf little s → isWhole little s ≡ false
+  short-octets : 16 ≤ length s → length (drop 16 s) < storedOf little s → isWhole little s ≡ false
   unfolding isWhole
   short-octets enough few = lt-leb (recordSize little s) (length s) (omega (arith, length-drop 16 s))
 
-  pub all-there : 16 ≤ length s → storedOf little s ≤ length (drop 16 s) → isWhole little s ≡ true
+  all-there : 16 ≤ length s → storedOf little s ≤ length (drop 16 s) → isWhole little s ≡ true
   unfolding isWhole
   all-there enough all = le-leb (recordSize little s) (length s) (omega (arith, length-drop 16 s))
 
@@ -209,11 +209,7 @@ captured frame input calls long whole =
 
 -- no octet wants more room than a row
 row-wanted : Within captures rowRoom
-row-wanted s c = go (isLast (s .progress))
-  where
-    go : (b : Bool) → cond b rowRoom 0 ≤ rowRoom
-    go true = omega arith
-    go false = omega arith
+row-wanted s c = by-cond (λ (n : ℕ). n ≤ rowRoom) (isLast (s .progress)) (λ _. omega arith) (λ _. omega arith)
 
 -- as many able calls as the input has octets take it all
 pub taken-whole : (frame input : List ℕ) (calls : List Call) → Able rowRoom calls → length input ≤ length calls → run frame input calls .left ≡ []

@@ -42,7 +42,7 @@ module _ (little : Bool) where
       rw (enough-turns m k (drop (recordSize little (c ∷ s)) (c ∷ s)) (omega arith) (omega arith))
 
   -- the first record, and the others
-  pub first-entry : (s : List ℕ) → isWhole little s ≡ true → entries little s ≡ recordEntry little s ∷ entries little (drop (recordSize little s) s)
+  first-entry : (s : List ℕ) → isWhole little s ≡ true → entries little s ≡ recordEntry little s ∷ entries little (drop (recordSize little s) s)
   unfolding entries entriesUpTo
   first-entry [] is = absurd (omega (arith, whole-size [] is))
   first-entry (c ∷ s) is =
@@ -85,7 +85,7 @@ module _ (little : Bool) where
     pub record-before : entries little (s ++ rest) ≡ recordEntry little s ∷ entries little rest
     record-before = first-entry (s ++ rest) whole-before ∙ rw (entry-before, size-before, drop-at s rest (recordSize little s) is)
 
-  pub records-before : (parts : List (List ℕ)) (rest : List ℕ) → AreRecords little parts → entries little (joined parts ++ rest) ≡ map (recordEntry little) parts ++ entries little rest
+  records-before : (parts : List (List ℕ)) (rest : List ℕ) → AreRecords little parts → entries little (joined parts ++ rest) ≡ map (recordEntry little) parts ++ entries little rest
   records-before [] rest are = refl
   records-before (s ∷ parts) rest are =
       rw (append-assoc s (joined parts) rest) (record-before s (joined parts ++ rest) (are .0) ∙ ap (λ (x : List Entry). recordEntry little s ∷ x) (records-before parts rest (are .1)))

@@ -1,5 +1,4 @@
--- What a call promises that is lent an output is a call of a run: it goes on with what is left of a piece and of the input behind
--- it, and what it says stands in the output after what waited.
+-- What a call promises that is lent an output is a call of a run.
 use Prim.Native.Nat.{ℕ, _+_, _-_, _≤_}
 use mathlib.Core.Path.{_≡_, refl, sym, ap, _∙_}
 use mathlib.Core.List.{List, [], _++_, append-assoc}
@@ -7,10 +6,11 @@ use native.Mathlib.Nat.{add-zero}
 use native.Mathlib.Omega.{arith}
 use lib.ListN.{length, take, drop}
 use lib.Seq.{sets, sets-eq, length-take-le, take-at, drop-at, drop-drop, drop-append-le}
-use Rattle.text.specs.Pieces.{Steps, Fed, fedFrom, Stage, stageAfter, goneOn, called}
+use Rattle.text.specs.Pieces.{Steps, Fed, fedFrom, Stage, stageAfter, goneOn}
+use Rattle.theorems_listing.specs.Runs.{IsCall, stage}
 use Rattle.theorems_listing.proofs.Pieces.{further, counted-from, taken-within}
 use Rattle.text_listing.specs.declared.feeding.Place.{Place}
-use Rattle.text_listing.specs.Feeding.{State, lister, Feeds}
+use Rattle.text_listing.specs.Feeding.{lister, Feeds}
 
 -- octets that were stored are read from where they stand
 pub stored-there : (out : List ℕ) (at : ℕ) (text : List ℕ) → at + length text ≤ length out → take (length text) (drop at (sets out at text)) ≡ text
@@ -42,9 +42,7 @@ module _ {S : Type 0} (r : Steps S) (piece rest said : List ℕ) (a : Stage S) w
       drop-append-le (own .taken) here rest (omega (arith, taken-within r room (record { state = a .state; taken = 0; said = [] }) here))
       ∙ ap (λ (x : List ℕ). x ++ rest) (drop-drop (own .taken) (a .taken) piece)
 
-  pub stage-is-call : {b : Stage S} → b ≡ goneOn r piece a → b .waiting ≤ length (a .output)
-      → called r (record { size = length here; room = room }) (record { state = a .state; left = here ++ rest; said = said })
-      ≡ record { state = b .state; left = drop (b .taken) piece ++ rest; said = said ++ take (b .waiting - a .waiting) (drop (a .waiting) (b .output)) }
+  pub stage-is-call : {b : Stage S} → b ≡ goneOn r piece a → b .waiting ≤ length (a .output) → IsCall r piece rest said a b
   stage-is-call {b} e fits =
       let is : b ≡ stageAfter a (further r (a .taken) own) = e ∙ counted in
       let waiting : b .waiting ≡ a .waiting + length (own .said) = ap (λ (x : Stage S). x .waiting) is in
@@ -53,16 +51,8 @@ module _ {S : Type 0} (r : Steps S) (piece rest said : List ℕ) (a : Stage S) w
 
 -- of the listing
 pub is-call : (p : Place) (f piece out rest said : List ℕ) {r : Place} {f' out' : List ℕ} → p .waiting ≤ length out → Feeds p f piece out r f' out'
-    → called lister (record { size = length (drop (p .taken) piece); room = length out - p .waiting })
-    (record { state = record { progress = p .progress; frame = f }; left = drop (p .taken) piece ++ rest; said = said })
-    ≡ record {
-      state = record { progress = r .progress; frame = f' };
-      left = drop (r .taken) piece ++ rest;
-      said = said ++ take (r .waiting - p .waiting) (drop (p .waiting) out');
-    }
+    → IsCall lister piece rest said (stage p f out) (stage r f' out')
 unfolding goneOn
 is-call p f piece out rest said {r} {f'} {out'} fits feeds =
-    let a : Stage State = record { state = record { progress = p .progress; frame = f }; taken = p .taken; waiting = p .waiting; output = out } in
-    let b : Stage State = record { state = record { progress = r .progress; frame = f' }; taken = r .taken; waiting = r .waiting; output = out' } in
-    let is : b ≡ goneOn lister piece a = rw (feeds .place, feeds .frame, feeds .output) in
-    stage-is-call lister piece rest said a {b = b} is (feeds .fits fits)
+    let is : stage r f' out' ≡ goneOn lister piece (stage p f out) = rw (feeds .place, feeds .frame, feeds .output) in
+    stage-is-call lister piece rest said (stage p f out) {b = stage r f' out'} is (feeds .fits fits)

@@ -9,6 +9,7 @@ use borrow.Author.Tests.{lt-ltb, le-leb, lt-leb}
 use lib.Dec.{eqb}
 use lib.ListN.{length}
 use Rattle.text.specs.Pieces.{Call, toSay, Within, Able}
+use Rattle.octets.proofs.Bools.{by-cond}
 use Rattle.text.proofs.Bounds.{by-bound}
 use Rattle.theorems_listing.proofs.Pieces.{said-whole, taken-whole as all-taken}
 use Rattle.text_listing.specs.declared.line.Line.{Line}
@@ -92,11 +93,7 @@ listed frame input calls long whole =
 
 -- no character wants more room than a row
 row-wanted : Within lister rowRoom
-row-wanted s c = go (eqb c newline)
-  where
-    go : (b : Bool) → cond b rowRoom 0 ≤ rowRoom
-    go true = omega arith
-    go false = omega arith
+row-wanted s c = by-cond (λ (n : ℕ). n ≤ rowRoom) (eqb c newline) (λ _. omega arith) (λ _. omega arith)
 
 -- as many able calls as the input has characters take it all
 pub taken-whole : (frame input : List ℕ) (calls : List Call) → Able rowRoom calls → length input ≤ length calls → run frame input calls .left ≡ []
