@@ -8,70 +8,69 @@
 // that its rows are more than the output holds. Of every fifty records, counted from 1, the first and the eleventh are the
 // first and the third frame of the lister's sample, the twenty-first has 20 octets stored of 60, the thirty-first is a frame of
 // 59 octets, and the others have no octet.
+#![tactic(auto)]
+
 ghost use Rattle.std.specs.Prelude.{◌≤◌, length};
 
-use libc::{STDIN_FILENO, STDOUT_FILENO};
+use std::fmt::{Display, Formatter};
+use std::io::{Read, Write};
+use std::process::ExitCode;
+use std::{fmt, io};
 use text_captures::{Place, Progress};
 use text_listing::Finished;
 
-// Reads a piece, or says why it cannot.
-fn read(input: &mut [u8]) -> isize {
-    let got = libc::read(STDIN_FILENO, input);
-    if got < 0 {
-        os::fail(b"standard input");
-    }
-    got
+// The octets that a piece has at most, and the room of the output.
+const PIECE: usize = 65_536;
+
+// Why a listing is not whole.
+#[derive(Drop)]
+enum Failure {
+    Input(io::Error),
+    Output(io::Error),
 }
 
-// Writes what waits, or says why it cannot.
-fn write(out: &[u8], waiting: usize) -> bool
-    requires { waiting ≤ length out.now }
-{
-    let is_written = io::write_all(STDOUT_FILENO, &out[..waiting]);
-    if !is_written {
-        os::fail(b"standard output");
+impl Display for Failure {
+    fn fmt<W: fmt::Write>(&self, f: &mut Formatter<W>) -> fmt::Result {
+        match self {
+            Failure::Input(error) => write!(f, "standard input: {error}"),
+            Failure::Output(error) => write!(f, "standard output: {error}"),
+        }
     }
-    is_written
+}
+
+// Writes what waits.
+fn write<W: Write>(output: &mut W, rows: &[u8], waiting: usize) -> Result<(), Failure>
+    requires { waiting ≤ length rows.now }
+{
+    output.write_all(&rows[..waiting]).map_err(Failure::Output)
 }
 
 // The file's end: the row of a file header that is short, or of a record that is not whole.
-fn end(progress: Progress, out: &mut [u8]) {
-    let last = text_captures::finish(progress, out);
-    match last {
-        Finished::Written(waiting) => {
-            write(out, waiting);
-        }
-        Finished::Refused(_) => {}
+fn end<W: Write>(progress: Progress, rows: &mut [u8], output: &mut W) -> Result<(), Failure> {
+    match text_captures::finish(progress, rows) {
+        Finished::Written(waiting) => write(output, rows, waiting),
+        Finished::Refused(_) => Ok(()),
     }
 }
 
 // A turn writes what waits; then it reads on where the piece is all taken, and lists on where it is not. Nothing says that
 // an input ends, and a proved loop has to: its turns are a number that no run uses up.
-fn main() {
+fn list<R: Read, W: Write>(input: &mut R, output: &mut W) -> Result<(), Failure> {
     let mut frame = [0u8; 1514];
-    let mut input = io::large_buffer();
-    let mut output = io::large_buffer();
+    let mut piece = [0u8; PIECE];
+    let mut rows = [0u8; PIECE];
     let mut progress = text_captures::start();
     let mut size: usize = 0;
     let mut taken: usize = 0;
-    let mut waiting = text_listing::put_header(&mut output);
-    let mut turns = u64::MAX;
-    while turns > 0 {
-        turns -= 1;
-        if !write(&output, waiting) {
-            return;
-        }
+    let mut waiting = text_listing::put_header(&mut rows);
+    for _ in 0..u64::MAX {
+        write(output, &rows, waiting)?;
         waiting = 0;
         if taken == size {
-            let got = read(&mut input);
-            if got < 0 {
-                return;
-            }
-            size = io::count(got, &input);
+            size = input.read(&mut piece).map_err(Failure::Input)?;
             taken = 0;
             if size == 0 {
-                end(progress, &mut output);
-                return;
+                return end(progress, &mut rows, output);
             }
             continue;
         }
@@ -80,9 +79,21 @@ fn main() {
             taken,
             waiting,
         };
-        let listed = text_captures::feed(place, &mut frame, &input[..size], &mut output);
+        let listed = text_captures::feed(place, &mut frame, &piece[..size], &mut rows);
         progress = listed.progress;
         taken = listed.taken;
         waiting = listed.waiting;
+    }
+    Ok(())
+}
+
+// A failure is told on standard error, and in the status.
+fn main(rt: HostRuntime) -> ExitCode {
+    match list(&mut rt.stdin(), &mut rt.stdout()) {
+        Ok(()) => ExitCode::SUCCESS,
+        Err(failure) => {
+            let _ = eprintln!(rt; "{failure}");
+            ExitCode::FAILURE
+        }
     }
 }

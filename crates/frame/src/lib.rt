@@ -3,6 +3,8 @@
 // `judgement_of` answers for a whole frame. Of one that it accepts, `header_of` gives the header, `fixed_number`, `event_number`
 // and `command_of` the number at the body's start, `local_at` of `frame_body` the Local TLV, and the steps of `frame_body` and
 // `frame_tlvs` the parts in order, over `body(frame)`, or over `events_body(frame)` for the events of a notification.
+#![tactic(auto)]
+
 mod flag_bits;
 mod numbers;
 mod parts;
@@ -15,7 +17,7 @@ pub use reader::judgement_of;
 
 // What is shown of every accepted frame: the source address as a number, the flags (all sixteen bits), the code, and how many
 // TLVs were skipped.
-#[derive(Drop)]
+#[derive(Clone, Copy, Drop)]
 pub struct Header {
     pub source: u64,
     pub flags: u16,

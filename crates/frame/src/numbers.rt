@@ -7,6 +7,7 @@ use octets::BODY_START;
 
 // What is shown of a frame in which so many TLVs were skipped: what stands before the body, zeros where it is too short to be
 // accepted, and that number, which is the judge's.
+#[tactic(auto, unfolding(crate::specs::Frame::header_of))]
 pub fn header_of(frame: &[u8], skipped: u16) -> Header
     ensures { result ≡ header_of frame.now skipped }
 {
@@ -30,6 +31,7 @@ pub fn header_of(frame: &[u8], skipped: u16) -> Header
 }
 
 // The number of an Event Notification; 0 where a frame is too short to be accepted.
+#[tactic(auto, unfolding(crate::specs::Frame::event_number))]
 pub fn event_number(frame: &[u8]) -> u16
     ensures { result ≡ event_number frame.now }
 {
@@ -40,6 +42,7 @@ pub fn event_number(frame: &[u8]) -> u16
 }
 
 // The command of a Loopback Control frame; 0 where a frame is too short to be accepted.
+#[tactic(auto, unfolding(crate::specs::Frame::command_of))]
 pub fn command_of(frame: &[u8]) -> u8
     ensures { result ≡ command_of frame.now }
 {
@@ -50,6 +53,7 @@ pub fn command_of(frame: &[u8]) -> u8
 }
 
 // The number at the start of the body: the event number, the command or the OUI, by the code; 0 where there is none.
+#[tactic(auto, unfolding(crate::specs::Frame::fixed_number))]
 pub fn fixed_number(frame: &[u8]) -> u32
     ensures { result ≡ fixed_number frame.now }
 {

@@ -9,6 +9,7 @@ use crate::parts::{body, events_body};
 use frame_body::{Judged, JudgedEvents, ListKind};
 
 // The tests 1 to 4 in order: the number of the first that fails, or 0.
+#[tactic(auto, unfolding(crate::specs::Frame::header_answer))]
 fn header_answer(frame: &[u8]) -> u8
     ensures { result ≡ header_answer frame.now }
 {
@@ -53,6 +54,7 @@ fn command_answer(command: u8) -> u8
 }
 
 // The answer to the body of a code other than 00 and 01: no TLVs stand in it.
+#[tactic(auto, unfolding(crate::specs::Reader::other_answer))]
 fn other_answer(frame: &[u8], code: u8) -> u8
     requires { shortest_frame ≤ length frame.now }
     ensures { result ≡ other_answer frame.now code }
@@ -108,6 +110,7 @@ fn information_judgement(judged: Judged) -> Judgement
     }
 }
 
+#[tactic(auto, unfolding(crate::specs::Reader::body_judgement))]
 fn body_judgement(frame: &[u8]) -> Judgement
     requires { shortest_frame ≤ length frame.now }
     ensures { result ≡ body_judgement frame.now }

@@ -7,6 +7,7 @@ use crate::{InformationNext, InformationStep, JudgedEvents};
 use frame_tlvs::{Cursor, Kind, Mark};
 
 // What stands at a cursor of an Information body, with the cursor after it.
+#[tactic(auto, unfolding(crate::specs::Counting::information_next))]
 pub fn information_next(body: &[u8], cursor: Cursor) -> InformationNext
     ensures { result ≡ information_next body.now cursor }
 {

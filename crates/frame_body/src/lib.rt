@@ -6,6 +6,8 @@
 // a second Local is shown as a Local, and it is `judged_information` that refuses such a body.
 //
 // Nothing is copied out of a body but numbers: what is longer is a part of the caller's own octets.
+#![tactic(auto)]
+
 mod counting;
 mod lists;
 mod local_remote;
@@ -19,7 +21,7 @@ pub use variables::{container_step, container_value, descriptor_step};
 
 // The fields of one Information TLV, with the bits that are ignored as they were received; `oampdu` is the OAMPDU
 // configuration, whose low 11 bits are the maximum size.
-#[derive(Drop)]
+#[derive(Clone, Copy, Drop)]
 pub struct Information {
     pub version: u8,
     pub revision: u16,
@@ -34,7 +36,7 @@ pub struct Information {
 pub const INFORMATION_WIDTHS: [usize; 7] = [1, 2, 1, 1, 2, 3, 4];
 
 // A Local or Remote TLV, or that there is none.
-#[derive(Drop)]
+#[derive(Clone, Copy, Drop)]
 pub enum Held {
     Nothing,
     Is(Information),

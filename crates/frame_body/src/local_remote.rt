@@ -7,6 +7,7 @@ use crate::{Held, Information, InformationStep, Judged};
 use frame_tlvs::{Kind, Mark};
 
 // The fields of the Information TLV at an octet.
+#[tactic(auto, unfolding(crate::specs::Information::information_at))]
 fn information_at(body: &[u8], at: usize) -> Information
     requires { at + 16 ≤ length body.now }
     ensures { result ≡ information_at body.now at }
@@ -41,6 +42,7 @@ pub fn information_step(body: &[u8], at: usize) -> InformationStep
 }
 
 // The Local TLV at an octet where one stands; its type is not looked at. Nothing where sixteen octets would run past the end.
+#[tactic(auto, unfolding(crate::specs::Judging::local_at))]
 pub fn local_at(body: &[u8], at: usize) -> Held
     ensures { result ≡ local_at body.now at }
 {

@@ -5,6 +5,7 @@ ghost use Rattle.frame_body.specs.Variables.{descriptor_step, width_of, value_oc
 use crate::{ContainerStep, DescriptorStep};
 
 // What stands at an octet of a list of descriptors.
+#[tactic(auto, unfolding(crate::specs::Variables::descriptor_step))]
 pub fn descriptor_step(body: &[u8], at: usize) -> DescriptorStep
     ensures { result ≡ descriptor_step body.now at }
 {

@@ -20,6 +20,7 @@ pub fn more(n: usize) -> usize
 }
 
 // What stands at a cursor of an Event Notification after its number, with the cursor after it.
+#[tactic(auto, unfolding(crate::specs::Counting::event_next))]
 pub fn event_next(body: &[u8], cursor: Cursor) -> EventNext
     ensures { result ≡ event_next body.now cursor }
 {

@@ -3,6 +3,8 @@
 // `event_next` takes the events of a notification in order, one a call: begin at `start()`, and go on at the cursor that each
 // step gives, until the end. Beside each event and at the end it gives the number of TLVs of unknown type that were skipped since
 // the body's start. A step (`event_step`) judges what stands at its octet alone.
+#![tactic(auto)]
+
 mod counting;
 mod notifications;
 mod numbers;
@@ -29,7 +31,7 @@ pub enum Mark {
 }
 
 // The fields of one event TLV, in the order of the table of widths; `kind` is its type, 1 to 4.
-#[derive(Drop)]
+#[derive(Clone, Copy, Drop)]
 pub struct Event {
     pub kind: u8,
     pub timestamp: u64,
@@ -49,7 +51,7 @@ pub enum EventStep {
 }
 
 // Where a walk over a body's TLVs stands: the octet to look at, and how many TLVs were skipped since the body's start.
-#[derive(Drop)]
+#[derive(Clone, Copy, Drop)]
 pub struct Cursor {
     pub at: usize,
     pub skipped: usize,

@@ -19,6 +19,7 @@ const WIDTHS: [[usize; 6]; 4] = [
 
 // The widths of an event's fields by its type; zeros for a type that is not in the table. Each row is taken at a constant place:
 // a table that is indexed by a variable would be stored on the stack at each use.
+#[tactic(auto, unfolding(crate::specs::Tlvs::event_widths, crate::specs::Tlvs::row))]
 pub fn event_widths(t: u8) -> [usize; 6]
     ensures { result ≡ event_widths t }
 {
@@ -33,6 +34,7 @@ pub fn event_widths(t: u8) -> [usize; 6]
 
 // A TLV's length by its type, with the type and length octets; 0 for a type that is not in the table. The numbers are the sums
 // of the table's rows, as is proved.
+#[tactic(auto, unfolding(crate::specs::Tlvs::event_length, crate::specs::Tlvs::row))]
 pub fn event_length(t: u8) -> usize
     ensures { result ≡ event_length t }
 {
@@ -70,6 +72,7 @@ fn field(body: &[u8], starts: [usize; 6], widths: [usize; 6], index: usize) -> u
 // every field is one load at a constant distance: a row that is chosen by a variable would be stored first, and each width
 // tested. The event total is taken before the others: as the last, being as wide in every row, it is taken at one place for all
 // four types and octet by octet.
+#[tactic(auto, unfolding(crate::specs::Tlvs::row, crate::specs::Events::event_at))]
 fn symbol_period_at(body: &[u8], at: usize) -> Event
     requires { at + 2 + total (row 1) ≤ length body.now }
     ensures { result ≡ event_at body.now at 1 }
@@ -88,6 +91,7 @@ fn symbol_period_at(body: &[u8], at: usize) -> Event
     }
 }
 
+#[tactic(auto, unfolding(crate::specs::Tlvs::row, crate::specs::Events::event_at))]
 fn frame_event_at(body: &[u8], at: usize) -> Event
     requires { at + 2 + total (row 2) ≤ length body.now }
     ensures { result ≡ event_at body.now at 2 }
@@ -106,6 +110,7 @@ fn frame_event_at(body: &[u8], at: usize) -> Event
     }
 }
 
+#[tactic(auto, unfolding(crate::specs::Tlvs::row, crate::specs::Events::event_at))]
 fn frame_period_at(body: &[u8], at: usize) -> Event
     requires { at + 2 + total (row 3) ≤ length body.now }
     ensures { result ≡ event_at body.now at 3 }
@@ -124,6 +129,7 @@ fn frame_period_at(body: &[u8], at: usize) -> Event
     }
 }
 
+#[tactic(auto, unfolding(crate::specs::Tlvs::row, crate::specs::Events::event_at))]
 fn frame_seconds_at(body: &[u8], at: usize) -> Event
     requires { at + 2 + total (row 4) ≤ length body.now }
     ensures { result ≡ event_at body.now at 4 }

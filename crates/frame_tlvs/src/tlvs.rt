@@ -16,6 +16,7 @@ pub enum Tlv {
     At(u8, usize, usize),
 }
 
+#[tactic(auto, unfolding(crate::specs::Tlvs::tlv_at))]
 fn tlv_at(body: &[u8], at: usize) -> Tlv
     ensures { result ≡ tlv_at body.now at }
 {

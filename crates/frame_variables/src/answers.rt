@@ -11,6 +11,7 @@ use octets::{BODY_START, LONGEST_FRAME, smaller};
 const FCS: usize = 4;
 
 // Whether what is asked and what is held are in range.
+#[tactic(auto, unfolding(crate::specs::Answers::formed_answers))]
 pub fn formed_answers(attributes: &[u32], values: &[u8], descriptors: &[u32]) -> bool
     ensures { result ≡ formed_answers attributes.now values.now descriptors.now }
 {
@@ -74,6 +75,7 @@ pub fn fitted(left: usize, width: usize) -> usize
 }
 
 // The octets of the answer to a descriptor where they fit; else 0. Nothing is searched for where no container fits.
+#[tactic(auto, unfolding(crate::specs::Answers::answer_octets))]
 fn answer_octets(left: usize, attributes: &[u32], descriptor: u32) -> usize
     ensures { result ≡ answer_octets left attributes.now descriptor }
 {

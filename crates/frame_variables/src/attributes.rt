@@ -79,6 +79,7 @@ fn widths(attributes: &[u32]) -> usize
 }
 
 // Whether attributes are in range: at most 64, each in range, none held twice, and as many octets of values as the widths say.
+#[tactic(auto, unfolding(crate::specs::Attributes::formed_attributes))]
 pub(crate) fn formed_attributes(attributes: &[u32], values: &[u8]) -> bool
     ensures { result ≡ formed_attributes attributes.now values.now }
 {

@@ -2,6 +2,8 @@
 //
 // A descriptor is one number, the branch above the leaf's sixteen bits. Attributes are lent as two numbers each, descriptor and
 // width, and as octets, the values one after another in the same order. Nothing is written to either.
+#![tactic(auto)]
+
 mod answers;
 mod attributes;
 mod descriptors;

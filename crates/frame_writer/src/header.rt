@@ -9,6 +9,7 @@ use crate::Written;
 use crate::storing::{put_fields, put_zeros};
 use octets::{DESTINATION, LENGTH_TYPE, SHORTEST_FRAME, SUBTYPE, all_three};
 
+#[tactic(auto, unfolding(crate::specs::Plain::plain_flags))]
 fn plain_flags(flags: u16) -> bool
     ensures { result ≡ plain_flags flags }
 {
@@ -23,6 +24,7 @@ pub(crate) fn is_plain(source: u64, flags: u16, body: bool) -> bool
     all_three(source < 0x1000000000000, plain_flags(flags), body)
 }
 
+#[tactic(auto, unfolding(crate::specs::Encode::header_octets))]
 pub(crate) fn put_header(out: &mut [u8], source: u64, flags: u16, code: u8)
     requires { body_start ≤ length out.old }
     ensures { out.new ≡ sets out.old 0 (header_octets source flags code) }

@@ -2,6 +2,8 @@
 //
 // Every writer answers 10 for what has no plain form, then 9 where the output is too short, and touches the output only
 // after both tests. What it writes reads back as what was meant (`theorems_frame`).
+#![tactic(auto)]
+
 mod events;
 mod header;
 mod local_remote;

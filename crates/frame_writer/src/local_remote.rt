@@ -12,6 +12,7 @@ use crate::storing::put_tlv;
 use frame_body::{Found, Held, INFORMATION_WIDTHS, Information};
 use octets::{BODY_START, SHORTEST_FRAME, all_four};
 
+#[tactic(auto, unfolding(crate::specs::Plain::plain_information))]
 fn plain_information(i: Information) -> bool
     ensures { result ≡ plain_information i }
 {
@@ -53,6 +54,7 @@ fn plain_found(local: Held, remote: Held) -> bool
 }
 
 // Stores an Information TLV of a type from octet at.
+#[tactic(auto, unfolding(crate::specs::Encode::information_octets))]
 fn put_information(out: &mut [u8], at: usize, t: u8, i: Information)
     requires { at + 16 ≤ length out.old }
     ensures { out.new ≡ sets out.old at (information_octets t i) }

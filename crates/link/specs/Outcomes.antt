@@ -1,5 +1,5 @@
 -- What a call comes to, and the Information frame that is written at its end.
-use Rattle.std.specs.Prelude.{ℕ, List, Bool, cond, ltb, length}
+use Rattle.std.specs.Prelude.{ℕ, List, Bool, cond, ltb}
 use Rattle.octets.specs.Layout.{shortest_frame}
 use Rattle.frame.specs.Frame.{Message, information}
 use Rattle.frame_writer.specs.Writing.{writes, written, message_of, parts_of}

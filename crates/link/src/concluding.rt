@@ -37,6 +37,7 @@ pub(crate) fn too_short(octets: usize) -> bool
 
 // Writes the owed Information frame where it may be written, and gives its length; 0 where it is not. How tick, receive and
 // report end: the end itself is `link_end::after_sending`.
+#[tactic(auto, unfolding(crate::specs::Outcomes::concluded_output, crate::specs::Outcomes::information_to_send))]
 pub(crate) fn write_owed(e: End, out: &mut [u8]) -> usize
     ensures { (result ≡ owed_length (length out.old) e) × (out.new ≡ concluded_output e out.old) }
 {

@@ -17,6 +17,7 @@ fn conclude_heard(m: Heard, e: End, out: &mut [u8]) -> Outcome
 }
 
 // One received frame.
+#[tactic(auto, unfolding(crate::specs::Hearing::receive_of, crate::specs::Hearing::receive_output))]
 pub fn receive(e: End, frame: &[u8], out: &mut [u8]) -> Outcome
     ensures { (result ≡ receive_of frame.now (length out.old) e) × (out.new ≡ receive_output frame.now e out.old) }
 {

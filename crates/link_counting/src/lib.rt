@@ -2,6 +2,8 @@
 //
 // The end and the watch stand side by side, and neither steps by the other. This is the tick that callers are offered: with one
 // that takes no count the two would drift apart.
+#![tactic(auto)]
+
 ghost use Rattle.std.specs.Prelude.{◌≡◌, length};
 ghost use Rattle.link.specs.Ticks.{tick_output};
 ghost use Rattle.link_counting.specs.Counting.{uncounted, counted_tick};
@@ -29,6 +31,7 @@ fn uncounted(watch: Watch) -> Counted
 }
 
 // One tick of 100 ms with its count of bad frames.
+#[tactic(auto, unfolding(crate::specs::Counting::counted_tick))]
 pub fn counted_tick(e: End, watch: Watch, count: u64, out: &mut [u8]) -> CountedTick
     ensures { (result ≡ counted_tick (length out.old) e watch count) × (out.new ≡ tick_output e out.old) }
 {

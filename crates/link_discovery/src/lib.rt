@@ -2,6 +2,8 @@
 //
 // Discovery is not kept: it follows from the link, the settings and what is kept of the peer (`proofs/Resting.antt` shows
 // that the paper's moves come to rest there).
+#![tactic(auto)]
+
 mod sending;
 mod standing;
 
@@ -13,7 +15,7 @@ pub use standing::{is_any, is_lost, role_in, stands_at};
 // The lost-link count that enters FAULT.
 pub const LOST_COUNT: u8 = 50;
 
-#[derive(Drop)]
+#[derive(Clone, Copy, Drop)]
 pub enum Discovery {
     Fault,
     ActiveSendLocal,

@@ -21,6 +21,7 @@ pub fn local_field(discovery: Discovery) -> u16
 }
 
 // The kept field while a record is held, else 0 (001, Table 57-3).
+#[tactic(auto, unfolding(crate::specs::Sending::remote_field))]
 pub fn remote_field(kept: u16, held: Record) -> u16
     ensures { result ≡ remote_field kept held }
 {
@@ -31,6 +32,7 @@ pub fn remote_field(kept: u16, held: Record) -> u16
 }
 
 // FAULT with the link down, if unidirectional.
+#[tactic(auto, unfolding(crate::specs::Sending::fault_flag))]
 pub fn fault_flag(up: bool, configuration: u8) -> bool
     ensures { result ≡ fault_flag up configuration }
 {
@@ -54,6 +56,7 @@ pub fn allowed_in(discovery: Discovery, fault: bool) -> bool
 }
 
 // The Local TLV.
+#[tactic(auto, unfolding(crate::specs::Sending::own_information))]
 pub fn own_information(settings: Settings, revision: u16, role: Role) -> Information
     ensures { result ≡ own_information settings revision role }
 {
@@ -68,6 +71,7 @@ pub fn own_information(settings: Settings, revision: u16, role: Role) -> Informa
     }
 }
 
+#[tactic(auto, unfolding(crate::specs::Sending::cleared_information))]
 fn cleared_information(i: Information) -> Information
     ensures { result ≡ cleared_information i }
 {
@@ -80,6 +84,7 @@ fn cleared_information(i: Information) -> Information
 }
 
 // The Remote TLV: the peer record's fields with the ignored bits zero.
+#[tactic(auto, unfolding(crate::specs::Sending::cleared_record))]
 pub fn cleared_record(held: Record) -> Held
     ensures { result ≡ cleared_record held }
 {

@@ -9,6 +9,7 @@ use link_loopback::Role;
 
 // The answer to a request for a frame of some octets, 0 where its values are out of range. One that is not measured against the two
 // maximum sizes is never answered 12.
+#[tactic(auto, unfolding(crate::specs::Granting::answer_to))]
 fn answer_to(octets: usize, permitted: bool, measured: bool, lent: usize, e: End) -> u8
     ensures { result ≡ answer_to octets permitted measured lent e }
 {
@@ -27,6 +28,7 @@ fn answer_to(octets: usize, permitted: bool, measured: bool, lent: usize, e: End
     )
 }
 
+#[tactic(auto, unfolding(crate::specs::Granting::granted))]
 fn grant(before: End, e: End) -> End
     ensures { result ≡ granted before e }
 {
@@ -38,6 +40,7 @@ fn grant(before: End, e: End) -> End
 }
 
 // The end after a request: as it is made where the answer is 0, else as it was.
+#[tactic(auto, unfolding(crate::specs::Granting::decided))]
 fn decide(answer: u8, e: End, next: End) -> Decided
     ensures { result ≡ decided answer e next }
 {
@@ -54,6 +57,7 @@ fn decide(answer: u8, e: End, next: End) -> Decided
 }
 
 // A loopback start, whose frame is of the shortest length.
+#[tactic(auto, unfolding(crate::specs::Granting::granted_start))]
 pub fn grant_start(e: End, lent: usize) -> Decided
     ensures { result ≡ granted_start lent e }
 {
@@ -73,6 +77,7 @@ pub fn grant_start(e: End, lent: usize) -> Decided
 }
 
 // A loopback stop.
+#[tactic(auto, unfolding(crate::specs::Granting::granted_stop))]
 pub fn grant_stop(e: End, lent: usize) -> Decided
     ensures { result ≡ granted_stop lent e }
 {
@@ -90,6 +95,7 @@ pub fn grant_stop(e: End, lent: usize) -> Decided
 }
 
 // A request for a frame of some octets that changes nothing else of the end.
+#[tactic(auto, unfolding(crate::specs::Granting::granted_frame))]
 pub fn grant_frame(octets: usize, permitted: bool, lent: usize, e: End) -> Decided
     ensures { result ≡ granted_frame octets permitted lent e }
 {
@@ -97,6 +103,7 @@ pub fn grant_frame(octets: usize, permitted: bool, lent: usize, e: End) -> Decid
 }
 
 // A notification of some octets: the next one carries the next number.
+#[tactic(auto, unfolding(crate::specs::Granting::granted_number))]
 pub fn grant_number(octets: usize, lent: usize, e: End) -> Decided
     ensures { result ≡ granted_number octets lent e }
 {
@@ -112,6 +119,7 @@ pub fn grant_number(octets: usize, lent: usize, e: End) -> Decided
 }
 
 // A Variable Response of some octets, which is cut to the smaller maximum size and so not measured.
+#[tactic(auto, unfolding(crate::specs::Granting::granted_response))]
 pub fn grant_response(octets: usize, lent: usize, e: End) -> Decided
     ensures { result ≡ granted_response octets lent e }
 {
@@ -122,6 +130,7 @@ pub fn grant_response(octets: usize, lent: usize, e: End) -> Decided
 }
 
 // The smaller of the two maximum sizes.
+#[tactic(auto, unfolding(crate::specs::Granting::smaller_maximum))]
 pub fn smaller_maximum(e: End) -> usize
     ensures { result ≡ smaller_maximum e }
 {

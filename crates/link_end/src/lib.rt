@@ -4,6 +4,8 @@
 // given out and taken back whole (`end_with` tests them), and nothing but a step of this crate changes one. Every step is
 // total on any end, and every public function here that gives an end gives one that keeps to its ranges for one that does
 // (shown in `theorems_reach`): a request's answer and its step are one function, and what is heard comes of a frame alone.
+#![tactic(auto)]
+
 mod granting;
 mod hearing;
 mod parts;
@@ -30,21 +32,21 @@ pub use taking::taken_whole;
 pub use ticking::ticked_due;
 
 // The optics' side: whether the link is up, and the lost-link count.
-#[derive(Drop)]
+#[derive(Clone, Copy, Drop)]
 pub struct Link {
     pub up: bool,
     pub lost: u8,
 }
 
 // The last event number received since FAULT was entered.
-#[derive(Drop)]
+#[derive(Clone, Copy, Drop)]
 pub enum Last {
     Never,
     Number(u16),
 }
 
 // What FAULT clears, but the role: the kept peer field, the peer record, the last event number received.
-#[derive(Drop)]
+#[derive(Clone, Copy, Drop)]
 pub struct Peer {
     pub kept: u16,
     pub held: Record,
@@ -53,7 +55,7 @@ pub struct Peer {
 
 // What the end says of itself: its revision and next event number, the two critical flags, and whether an Information frame
 // is owed.
-#[derive(Drop)]
+#[derive(Clone, Copy, Drop)]
 pub struct Own {
     pub revision: u16,
     pub number: u16,
@@ -64,7 +66,7 @@ pub struct Own {
 
 // The meter's numbers are as wide as the source address, so it stands beside the settings: an end is handed on by value, and is
 // copied with its gaps.
-#[derive(Drop)]
+#[derive(Clone, Copy, Drop)]
 pub struct End {
     settings: Settings,
     meter: Meter,
@@ -83,7 +85,7 @@ pub enum Report {
 }
 
 // What a body asks of the machine.
-#[derive(Drop)]
+#[derive(Clone, Copy, Drop)]
 pub enum Action {
     Inform,
     Notify(u16),
@@ -92,7 +94,7 @@ pub enum Action {
 }
 
 // What is heard of an accepted frame.
-#[derive(Drop)]
+#[derive(Clone, Copy, Drop)]
 pub struct Heard {
     header: Header,
     local: Held,
@@ -108,7 +110,7 @@ pub enum Said {
 
 // What a receive shows: nothing, the header of an accepted frame, or the header and the number of a notification whose
 // events are new. A notification that shows its header only is a repeat or came outside SEND_ANY: its events are not taken.
-#[derive(Drop)]
+#[derive(Clone, Copy, Drop)]
 pub enum News {
     Nothing,
     Frame(Header),

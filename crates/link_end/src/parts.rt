@@ -18,6 +18,7 @@ fn no_peer() -> Peer
     }
 }
 
+#[tactic(auto, unfolding(crate::specs::Parts::fresh_end))]
 fn fresh_end(settings: Settings) -> End
     ensures { result ≡ fresh_end settings }
 {
@@ -38,6 +39,7 @@ fn fresh_end(settings: Settings) -> End
 }
 
 // A fresh end, or 10 for settings out of range.
+#[tactic(auto, unfolding(crate::specs::Parts::fresh_of))]
 pub fn fresh(settings: Settings) -> MaybeEnd
     ensures { result ≡ fresh_of settings }
 {
@@ -48,6 +50,7 @@ pub fn fresh(settings: Settings) -> MaybeEnd
 }
 
 // Where discovery stands.
+#[tactic(auto, unfolding(crate::specs::Parts::discovery_of))]
 pub fn discovery_of(e: End) -> Discovery
     ensures { result ≡ discovery_of e }
 {
@@ -62,6 +65,7 @@ pub fn discovery_of(e: End) -> Discovery
     )
 }
 
+#[tactic(auto, unfolding(crate::specs::Parts::in_any))]
 pub(crate) fn in_any(e: End) -> bool
     ensures { result ≡ in_any e }
 {
@@ -69,6 +73,7 @@ pub(crate) fn in_any(e: End) -> bool
 }
 
 // What entering FAULT clears.
+#[tactic(auto, unfolding(crate::specs::Parts::faulted))]
 pub(crate) fn faulted(e: End) -> End
     ensures { result ≡ faulted e }
 {

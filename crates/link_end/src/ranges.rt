@@ -10,6 +10,7 @@ use link_loopback::Role;
 use link_peer::{Record, Settings};
 
 // Only the OUI is narrower than its type.
+#[tactic(auto, unfolding(crate::specs::Ranges::record_fits))]
 fn record_fits(held: Record) -> bool
     ensures { result ≡ record_fits held }
 {
@@ -20,6 +21,7 @@ fn record_fits(held: Record) -> bool
 }
 
 // As its type has it.
+#[tactic(auto, unfolding(crate::specs::Ranges::last_fits))]
 fn last_fits(last: Last) -> bool
     ensures { result ≡ last_fits last }
 {
@@ -50,6 +52,7 @@ fn is_idle(role: Role) -> bool
     }
 }
 
+#[tactic(auto, unfolding(crate::specs::Ranges::blank))]
 fn is_blank(peer: Peer) -> bool
     ensures { result ≡ blank peer }
 {
@@ -68,6 +71,7 @@ fn is_beside(peer: Peer) -> bool
 }
 
 // Whether what is kept of the peer keeps to its ranges, by whether the link is up.
+#[tactic(auto, unfolding(crate::specs::Ranges::peer_ranged))]
 fn is_peer_ranged(up: bool, peer: Peer) -> bool
     ensures { result ≡ peer_ranged up peer }
 {
@@ -79,6 +83,7 @@ fn is_peer_ranged(up: bool, peer: Peer) -> bool
 }
 
 // Whether the role, the meter and what is owed do, by where discovery stands.
+#[tactic(auto, unfolding(crate::specs::Ranges::rest_ranged, crate::specs::Parts::in_any, crate::specs::Sending::allowed))]
 fn is_rest_ranged(e: End) -> bool
     ensures { result ≡ rest_ranged e }
 {
@@ -92,6 +97,7 @@ fn is_rest_ranged(e: End) -> bool
 }
 
 // Whether an end keeps to its ranges. What its types alone keep to is not tested.
+#[tactic(auto, unfolding(crate::specs::Ranges::ranged, crate::specs::Ranges::peer_ranged, crate::specs::Ranges::rest_ranged))]
 fn is_ranged(e: End) -> bool
     ensures { result ≡ ranged e }
 {
@@ -104,6 +110,7 @@ fn is_ranged(e: End) -> bool
 }
 
 // The end of six parts, or 10 where no end that keeps to its ranges has them.
+#[tactic(auto, unfolding(crate::specs::Ranges::checked))]
 pub fn end_with(
     settings: Settings,
     link: Link,

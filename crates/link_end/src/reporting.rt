@@ -6,6 +6,7 @@ use crate::parts::faulted;
 use crate::sending::dues;
 use crate::{End, Link, Own, Report};
 
+#[tactic(auto, unfolding(crate::specs::Reporting::link_up))]
 fn link_up(e: End) -> End
     ensures { result ≡ link_up e }
 {
@@ -18,6 +19,7 @@ fn link_up(e: End) -> End
     }
 }
 
+#[tactic(auto, unfolding(crate::specs::Reporting::link_down))]
 fn link_down(e: End) -> End
     ensures { result ≡ link_down e }
 {
@@ -67,6 +69,7 @@ fn reported(e: End, report: Report) -> End
 }
 
 // The end after a report, with what is owed then.
+#[tactic(auto, unfolding(crate::specs::Reporting::reported_due))]
 pub fn report_due(e: End, report: Report) -> End
     ensures { result ≡ reported_due report e }
 {

@@ -9,6 +9,7 @@ use frame_body::{Found, Held};
 use link_discovery::Discovery;
 use link_loopback::Role;
 
+#[tactic(auto, unfolding(crate::specs::Sending::fault_flag_of))]
 pub(crate) fn fault_flag_of(e: End) -> bool
     ensures { result ≡ fault_flag_of e }
 {
@@ -31,6 +32,7 @@ pub(crate) fn flags_at(e: End, standing: Discovery, fault: bool) -> u16
 }
 
 // The flags to be sent.
+#[tactic(auto, unfolding(crate::specs::Sending::flags_to_send))]
 pub fn flags_to_send(e: End) -> u16
     ensures { result ≡ flags_to_send e }
 {
@@ -38,6 +40,7 @@ pub fn flags_to_send(e: End) -> u16
 }
 
 // The TLVs of the Information frame; none with the link down.
+#[tactic(auto, unfolding(crate::specs::Sending::tlvs_to_send))]
 pub fn tlvs_to_send(e: End) -> Found
     ensures { result ≡ tlvs_to_send e }
 {
@@ -93,6 +96,7 @@ pub(crate) fn own_after(before: End, due: bool, standing: Discovery, e: End) -> 
 }
 
 // The revision, and what is owed, after a call that made an end of another.
+#[tactic(auto, unfolding(crate::specs::Sending::dues, crate::specs::Sending::allowed, crate::specs::Sending::changed, crate::specs::Sending::flags_to_send))]
 pub(crate) fn dues(before: End, due: bool, e: End) -> End
     ensures { result ≡ dues before due e }
 {
@@ -101,6 +105,7 @@ pub(crate) fn dues(before: End, due: bool, e: End) -> End
 }
 
 // Whether the owed Information frame may be written.
+#[tactic(auto, unfolding(crate::specs::Sending::sends))]
 pub fn sends(e: End) -> bool
     ensures { result ≡ sends e }
 {
@@ -111,6 +116,7 @@ pub fn sends(e: End) -> bool
 }
 
 // The end after a call: its owed Information frame is written where it may be.
+#[tactic(auto, unfolding(crate::specs::Sending::sent))]
 pub fn after_sending(e: End) -> End
     ensures { result ≡ after_sending e }
 {

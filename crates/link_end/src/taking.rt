@@ -30,6 +30,7 @@ fn know(m: Heard, e: End) -> End
 }
 
 // The role after the body's action, by whether it was a command that is obeyed.
+#[tactic(auto, unfolding(crate::specs::Taking::role_after))]
 fn role_after(local: Held, action: Action, obeyed: bool, role: Role) -> Role
     ensures { result ≡ role_after local action obeyed role }
 {
@@ -52,6 +53,7 @@ fn last_after(action: Action, last: Last) -> Last
     }
 }
 
+#[tactic(auto, unfolding(crate::specs::Taking::obeys_command))]
 fn obeys_command(command: u8, source: u64, e: End) -> bool
     ensures { result ≡ obeys_command command source e }
 {
@@ -68,6 +70,7 @@ fn obeys_command(command: u8, source: u64, e: End) -> bool
 }
 
 // Whether the body is a loopback command that is obeyed.
+#[tactic(auto, unfolding(crate::specs::Taking::obeyed))]
 fn is_obeyed(source: u64, action: Action, e: End) -> bool
     ensures { result ≡ obeyed source action e }
 {
@@ -80,6 +83,7 @@ fn is_obeyed(source: u64, action: Action, e: End) -> bool
 }
 
 // The body's action.
+#[tactic(auto, unfolding(crate::specs::Taking::acted))]
 fn act(m: Heard, obeyed: bool, e: End) -> End
     ensures { result ≡ acted m obeyed e }
 {
@@ -100,6 +104,7 @@ fn act(m: Heard, obeyed: bool, e: End) -> End
     }
 }
 
+#[tactic(auto, unfolding(crate::specs::Taking::is_repeat))]
 fn is_repeat(n: u16, last: Last) -> bool
     ensures { result ≡ is_repeat n last }
 {
@@ -109,6 +114,7 @@ fn is_repeat(n: u16, last: Last) -> bool
     }
 }
 
+#[tactic(auto, unfolding(crate::specs::Taking::shown_events))]
 fn show_events(header: Header, n: u16, last: Last) -> News
     ensures { result ≡ shown_events header n last }
 {
@@ -118,6 +124,7 @@ fn show_events(header: Header, n: u16, last: Last) -> News
     News::Events(header, n)
 }
 
+#[tactic(auto, unfolding(crate::specs::Taking::shown_of))]
 fn show(header: Header, action: Action, last: Last) -> News
     ensures { result ≡ shown_of header action last }
 {
@@ -130,6 +137,7 @@ fn show(header: Header, action: Action, last: Last) -> News
 }
 
 // In SEND_ANY, after the moves: the body's action.
+#[tactic(auto, unfolding(crate::specs::Taking::taken_in_any))]
 fn take_in_any(m: Heard, before: End, standing: Discovery, e: End) -> Taken
     ensures { result ≡ taken_in_any m before standing e }
 {
@@ -147,6 +155,7 @@ fn take_in_any(m: Heard, before: End, standing: Discovery, e: End) -> Taken
 }
 
 // Elsewhere, after the moves: no action.
+#[tactic(auto, unfolding(crate::specs::Taking::taken_elsewhere))]
 fn take_elsewhere(header: Header, before: End, standing: Discovery, e: End) -> Taken
     ensures { result ≡ taken_elsewhere header before standing e }
 {

@@ -9,6 +9,7 @@ use crate::{End, Link, Own};
 use link_discovery::Discovery;
 
 // The lost-link count.
+#[tactic(auto, unfolding(crate::specs::Ticking::missed))]
 fn miss(e: End) -> End
     ensures { result ≡ missed e }
 {
@@ -32,6 +33,7 @@ fn miss(e: End) -> End
 }
 
 // Whether this tick makes the lost-link count one that enters FAULT.
+#[tactic(auto, unfolding(crate::specs::Ticking::losing))]
 fn is_losing(e: End) -> bool
     ensures { result ≡ losing e }
 {
@@ -54,6 +56,7 @@ fn ticked_in(missed: End, standing: Discovery) -> End
 
 // Whether the flags that were to be sent are others now. (`flags_to_send` of the end before is written out: a call with a whole
 // end costs each tick a copy of it, also one that does not come here.)
+#[tactic(auto, unfolding(crate::specs::Sending::flags_to_send))]
 fn flags_changed(before: End, standing: Discovery, e: End) -> bool
     ensures { result ≡ flags_changed before standing e }
 {

@@ -2,6 +2,8 @@
 // tests of a request.
 //
 // Nothing here knows more of an end than the numbers and tests that it is handed.
+#![tactic(auto)]
+
 mod limit;
 mod owing;
 mod tests;
@@ -20,7 +22,7 @@ pub const SECOND_TICKS: u64 = 10;
 
 // The limit on frames: the ticks since a timer second closed, and the frames of the newest eleven intervals, each interval's count
 // a digit of four bits, that of the present one the lowest. (The ticks are as wide: a gap between the two would be copied with them.)
-#[derive(Drop)]
+#[derive(Clone, Copy, Drop)]
 pub struct Meter {
     ticks: u64,
     intervals: u64,

@@ -38,6 +38,7 @@ pub fn written_frames(meter: Meter) -> u8
 }
 
 // Whether one frame more may be written.
+#[tactic(auto, unfolding(crate::specs::Limit::has_room))]
 pub fn has_room(meter: Meter) -> bool
     ensures { result ≡ has_room meter }
 {
@@ -58,6 +59,7 @@ pub fn charged_meter(meter: Meter) -> Meter
 }
 
 // Whether the next tick closes a timer second.
+#[tactic(auto, unfolding(crate::specs::Limit::closes))]
 pub fn closes(meter: Meter) -> bool
     ensures { result ≡ closes meter }
 {
@@ -65,6 +67,7 @@ pub fn closes(meter: Meter) -> bool
 }
 
 // The meter after a tick: the oldest interval goes, and a new one is opened.
+#[tactic(auto, unfolding(crate::specs::Limit::turned_meter, crate::specs::Limit::closes))]
 pub fn turned_meter(meter: Meter) -> Meter
     ensures { result ≡ turned_meter meter }
 {
@@ -106,6 +109,7 @@ pub fn meter_of(ticks: u64, intervals: u64) -> Meter
 }
 
 // Whether a meter can come to its numbers.
+#[tactic(auto, unfolding(crate::specs::Limit::is_bounded))]
 pub fn is_bounded(meter: Meter) -> bool
     ensures { result ≡ is_bounded meter }
 {

@@ -19,6 +19,7 @@ fn first(holds: bool, number: u8, next: u8) -> u8
 }
 
 // The number of the first test that does not hold; 0 where all hold.
+#[tactic(auto, unfolding(crate::specs::Tests::request_answer))]
 pub fn request_answer(
     formed: bool,
     any: bool,

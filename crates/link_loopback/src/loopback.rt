@@ -19,6 +19,7 @@ fn after_actions(role: Role, looping: bool, forward: bool) -> Role
 }
 
 // The role after a Local TLV with parser and multiplexer actions.
+#[tactic(auto, unfolding(crate::specs::Loopback::role_after_local))]
 pub fn role_after_local(local: Held, role: Role) -> Role
     ensures { result ≡ role_after_local local role }
 {
@@ -53,6 +54,7 @@ fn is_looping(role: Role) -> bool
 }
 
 // Whether a loopback command is obeyed.
+#[tactic(auto, unfolding(crate::specs::Loopback::obeys))]
 pub fn obeys(command: u8, higher: bool, configuration: u8, held: Record, role: Role) -> bool
     ensures { result ≡ obeys command higher configuration held role }
 {
@@ -105,6 +107,7 @@ fn stops(role: Role) -> bool
 }
 
 // Whether a loopback start is allowed by the mode, the peer's capability and the role.
+#[tactic(auto, unfolding(crate::specs::Loopback::may_start))]
 pub fn may_start(configuration: u8, held: Record, role: Role) -> bool
     ensures { result ≡ may_start configuration held role }
 {
@@ -116,6 +119,7 @@ pub fn may_start(configuration: u8, held: Record, role: Role) -> bool
 }
 
 // Whether a loopback stop is allowed by the mode and the role.
+#[tactic(auto, unfolding(crate::specs::Loopback::may_stop))]
 pub fn may_stop(configuration: u8, role: Role) -> bool
     ensures { result ≡ may_stop configuration role }
 {

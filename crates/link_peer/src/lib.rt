@@ -1,4 +1,6 @@
 // What an end is set to, what it keeps of its peer, and whether it is satisfied by that.
+#![tactic(auto)]
+
 mod bits;
 mod peers;
 mod ranges;
@@ -12,7 +14,7 @@ pub use peers::{
 pub use ranges::is_sound;
 
 // What an end is set to; nothing changes it.
-#[derive(Drop)]
+#[derive(Clone, Copy, Drop)]
 pub struct Settings {
     pub configuration: u8,
     pub size: u16,
@@ -23,7 +25,7 @@ pub struct Settings {
 }
 
 // What is kept of the peer's Local TLV, or that there is none yet.
-#[derive(Drop)]
+#[derive(Clone, Copy, Drop)]
 pub enum Record {
     Absent,
     Of(Information),

@@ -14,12 +14,14 @@ pub fn maximum(i: Information) -> u16
     i.oampdu % 2048
 }
 
+#[tactic(auto, unfolding(crate::specs::Peers::has_all))]
 fn has_all(required: u8, configuration: u8) -> bool
     ensures { result ≡ has_all required configuration }
 {
     required & configuration == required
 }
 
+#[tactic(auto, unfolding(crate::specs::Peers::satisfies))]
 fn is_satisfied_by(settings: Settings, i: Information) -> bool
     ensures { result ≡ satisfies settings i }
 {
@@ -34,6 +36,7 @@ fn is_satisfied_by(settings: Settings, i: Information) -> bool
     )
 }
 
+#[tactic(auto, unfolding(crate::specs::Peers::satisfied))]
 pub fn is_satisfied(settings: Settings, held: Record) -> bool
     ensures { result ≡ satisfied settings held }
 {
@@ -52,6 +55,7 @@ pub fn is_held(held: Record) -> bool
     }
 }
 
+#[tactic(auto, unfolding(crate::specs::Peers::peer_active))]
 pub fn is_peer_active(held: Record) -> bool
     ensures { result ≡ peer_active held }
 {
@@ -61,6 +65,7 @@ pub fn is_peer_active(held: Record) -> bool
     }
 }
 
+#[tactic(auto, unfolding(crate::specs::Peers::peer_loopback))]
 pub fn is_peer_loopback(held: Record) -> bool
     ensures { result ≡ peer_loopback held }
 {
@@ -71,6 +76,7 @@ pub fn is_peer_loopback(held: Record) -> bool
 }
 
 // Whether an end of a configuration may answer the peer's variable requests.
+#[tactic(auto, unfolding(crate::specs::Peers::may_respond))]
 pub fn may_respond(configuration: u8, held: Record) -> bool
     ensures { result ≡ may_respond configuration held }
 {
@@ -82,6 +88,7 @@ pub fn may_respond(configuration: u8, held: Record) -> bool
 }
 
 // The peer's maximum size, 0 where no record is held.
+#[tactic(auto, unfolding(crate::specs::Peers::peer_maximum))]
 pub fn peer_maximum(held: Record) -> u16
     ensures { result ≡ peer_maximum held }
 {
@@ -92,6 +99,7 @@ pub fn peer_maximum(held: Record) -> u16
 }
 
 // The kept field after flags: a received 3 keeps the last value.
+#[tactic(auto, unfolding(crate::specs::Peers::kept_from))]
 pub fn kept_from(flags: u16, kept: u16) -> u16
     ensures { result ≡ kept_from flags kept }
 {

@@ -5,6 +5,7 @@ ghost use Rattle.link_peer.specs.Ranges.{sound};
 use crate::Settings;
 
 // Whether every value is in its range; other settings yield no end.
+#[tactic(auto, unfolding(crate::specs::Ranges::sound))]
 pub fn is_sound(settings: Settings) -> bool
     ensures { result ≡ sound settings }
 {

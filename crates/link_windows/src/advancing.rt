@@ -10,6 +10,7 @@ use std::num::{wrapping_add_u32, wrapping_add_u64};
 const MOST_ERRORS: u64 = 0xffffffff;
 
 // Whether this tick is the window's last.
+#[tactic(auto, unfolding(crate::specs::Windows::ends))]
 fn ends(window: Window) -> bool
     ensures { result ≡ ends window }
 {
@@ -17,6 +18,7 @@ fn ends(window: Window) -> bool
 }
 
 // The window's errors with those that this tick adds, as far as there is room for them.
+#[tactic(auto, unfolding(crate::specs::Windows::summed))]
 fn summed(window: Window, added: u64) -> u32
     ensures { result ≡ summed window added }
 {
@@ -27,6 +29,7 @@ fn summed(window: Window, added: u64) -> u32
 }
 
 // Whether an event arises at this tick.
+#[tactic(auto, unfolding(crate::specs::Windows::arises))]
 fn arises(window: Window, added: u64) -> bool
     ensures { result ≡ arises window added }
 {
@@ -37,6 +40,7 @@ fn arises(window: Window, added: u64) -> bool
 }
 
 // The events of a window after this tick.
+#[tactic(auto, unfolding(crate::specs::Windows::events_after))]
 fn events_after(window: Window, added: u64) -> u32
     ensures { result ≡ events_after window added }
 {
@@ -47,6 +51,7 @@ fn events_after(window: Window, added: u64) -> u32
 }
 
 // The window after this tick. Windows follow each other without a gap: where one ends the next begins.
+#[tactic(auto, unfolding(crate::specs::Windows::advanced, crate::specs::Windows::ends))]
 pub(crate) fn advanced(window: Window, added: u64) -> Window
     ensures { result ≡ advanced window added }
 {
@@ -71,6 +76,7 @@ pub(crate) fn advanced(window: Window, added: u64) -> Window
 }
 
 // The event that arises at this tick, if one does, by the window before and after it.
+#[tactic(auto, unfolding(crate::specs::Windows::arisen_in))]
 pub(crate) fn arisen_in(kind: u8, stamp: u16, before: Window, added: u64, after: Window) -> Arisen
     ensures { result ≡ arisen_in kind stamp before added after }
 {

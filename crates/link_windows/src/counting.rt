@@ -16,6 +16,7 @@ const ERRORED_FRAME_SECONDS: u8 = 4;
 pub(crate) const BEYOND_TOTAL: u64 = 0x100000000;
 
 // The ticks of the present second so far.
+#[tactic(auto, unfolding(crate::specs::Watches::phase_of))]
 pub fn phase(watch: Watch) -> u64
     ensures { result ≡ phase_of watch }
 {
@@ -23,6 +24,7 @@ pub fn phase(watch: Watch) -> u64
 }
 
 // Whether this tick closes a second.
+#[tactic(auto, unfolding(crate::specs::Watches::closes_second))]
 fn closes_second(watch: Watch) -> bool
     ensures { result ≡ closes_second watch }
 {
@@ -64,6 +66,7 @@ fn wrapped(window: Window) -> Window
 }
 
 // The watch after one more tick with its count of bad frames, and the events that arise.
+#[tactic(auto, unfolding(crate::specs::Watches::taken_count))]
 pub fn take_count(watch: Watch, count: u64) -> Counted
     ensures { result ≡ taken_count watch count }
 {

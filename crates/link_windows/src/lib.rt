@@ -2,6 +2,8 @@
 //
 // A watch is both windows of one end. It steps by the counts of bad frames alone, one at each accepted tick, and knows nothing of
 // the end, of its link or of what is sent.
+#![tactic(auto)]
+
 mod advancing;
 mod counting;
 mod parts;
@@ -14,7 +16,7 @@ pub use ranges::{fresh_watch, fresh_window, is_proper};
 
 // One window: its length in ticks and its threshold; of the present window the ticks so far and the errors in them; and since
 // fresh the errors of all ticks and the events that arose.
-#[derive(Drop)]
+#[derive(Clone, Copy, Drop)]
 pub struct Window {
     pub length: u16,
     pub threshold: u32,
@@ -26,7 +28,7 @@ pub struct Window {
 
 // The window of errored frames and that of errored frame seconds, the ticks since fresh modulo 65,536, and whether the present
 // second has a bad frame.
-#[derive(Drop)]
+#[derive(Clone, Copy, Drop)]
 pub struct Watch {
     frames: Window,
     seconds: Window,
@@ -42,14 +44,14 @@ pub enum MaybeWatch {
 }
 
 // The event that arose, if one did.
-#[derive(Drop)]
+#[derive(Clone, Copy, Drop)]
 pub enum Arisen {
     Nothing,
     Is(Event),
 }
 
 // What a count comes to: the watch after it, and what arose in each window.
-#[derive(Drop)]
+#[derive(Clone, Copy, Drop)]
 pub struct Counted {
     pub watch: Watch,
     pub frames: Arisen,

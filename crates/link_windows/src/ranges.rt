@@ -32,6 +32,7 @@ fn is_between(least: u64, most: u64, number: u64) -> bool
 }
 
 // Whether a window of errored frames may have this length and threshold; below, one of errored frame seconds.
+#[tactic(auto, unfolding(crate::specs::Ranges::frame_settings))]
 fn frame_settings(length: u64, threshold: u64) -> bool
     ensures { result ≡ frame_settings length threshold }
 {
@@ -41,6 +42,7 @@ fn frame_settings(length: u64, threshold: u64) -> bool
     false
 }
 
+#[tactic(auto, unfolding(crate::specs::Ranges::seconds_settings))]
 fn seconds_settings(length: u64, threshold: u64) -> bool
     ensures { result ≡ seconds_settings length threshold }
 {
@@ -84,6 +86,7 @@ pub fn fresh_watch(
     MaybeWatch::Refused(10)
 }
 
+#[tactic(auto, unfolding(crate::specs::Ranges::frames_proper))]
 fn is_frames_proper(frames: Window) -> bool
     ensures { result ≡ frames_proper frames }
 {
@@ -94,6 +97,7 @@ fn is_frames_proper(frames: Window) -> bool
     )
 }
 
+#[tactic(auto, unfolding(crate::specs::Ranges::seconds_proper))]
 fn is_seconds_proper(seconds: Window) -> bool
     ensures { result ≡ seconds_proper seconds }
 {
@@ -107,6 +111,7 @@ fn is_seconds_proper(seconds: Window) -> bool
 
 // Whether a watch keeps to what every watch keeps to that counts have made of a fresh one; not each that does has such counts.
 // What its types alone keep to is not tested.
+#[tactic(auto, unfolding(crate::specs::Ranges::proper))]
 pub fn is_proper(watch: Watch) -> bool
     ensures { result ≡ proper watch }
 {

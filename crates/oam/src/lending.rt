@@ -7,6 +7,7 @@ ghost use Rattle.oam.specs.Lending.{lends, held_from};
 use frame_body::{Held, INFORMATION_WIDTHS, Information};
 
 // Whether some numbers lend an Information TLV or none: seven, each within its field's width, or no number.
+#[tactic(auto, unfolding(crate::specs::Lending::lends))]
 pub(crate) fn lends(numbers: &[u64]) -> bool
     ensures { result ≡ lends numbers.now }
 {

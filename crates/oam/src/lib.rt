@@ -9,6 +9,8 @@
 // An end of the link and its watch are kept in octets that the caller lends to each call (the crate `oam_packing`). The outcome
 // of a call has the State octet after it in bits 40 to 47, what is shown in bits 48 and 49, and of a tick how many events arose in
 // bits 50 and 51.
+#![tactic(auto)]
+
 mod lending;
 mod logging;
 mod machine;

@@ -31,8 +31,8 @@ fn store_fresh(e: End, watch: MaybeWatch, state: &mut [u8]) -> u64
 }
 
 // Makes a fresh end and a fresh watch by their settings: 0, or 10 for settings out of range and for a state of another length.
-#[unsafe(no_mangle)]
-pub extern "C" fn oam_fresh(
+#[tactic(auto, unfolding(crate::specs::Machine::fresh_for))]
+pub fn oam_fresh(
     configuration: u8,
     size: u16,
     oui: u32,
@@ -85,8 +85,7 @@ fn report_from(number: u8) -> Report
 
 // One report: 0 link up, 1 link down, 2 and 3 dying gasp set and cleared, 4 and 5 critical event set and cleared; any other
 // number is 10, which leaves the end as it is.
-#[unsafe(no_mangle)]
-pub extern "C" fn oam_report(report: u8, state: &mut [u8], out: &mut [u8]) -> u64
+pub fn oam_report(report: u8, state: &mut [u8], out: &mut [u8]) -> u64
     ensures { Stepping (reported_by report (length out.old)) (reported_output report) (unpacked state.old) state.old out.old result state.new out.new }
 {
     match oam_packing::unpack(state) {
@@ -113,13 +112,7 @@ fn show_news(lent: &mut [u64], shown: News) -> u64
 
 // One received frame. Of one that is accepted five numbers are stored in the header: source, flags, code, the event number where
 // the events are new, else 0, and how many TLVs were skipped. A header shorter than that is 9, which leaves the end as it is.
-#[unsafe(no_mangle)]
-pub extern "C" fn oam_receive(
-    frame: &[u8],
-    header: &mut [u64],
-    state: &mut [u8],
-    out: &mut [u8],
-) -> u64
+pub fn oam_receive(frame: &[u8], header: &mut [u64], state: &mut [u8], out: &mut [u8]) -> u64
     ensures { Receiving (received_by frame.now (length header.old) (length out.old)) (received_output frame.now (length header.old)) (unpacked state.old) header.old state.old out.old result header.new state.new out.new }
 {
     match oam_packing::unpack(state) {
@@ -137,6 +130,7 @@ pub extern "C" fn oam_receive(
 }
 
 // The numbers of a watch, behind those of its end.
+#[tactic(auto, unfolding(oam_packing::specs::Watches::watch_shown))]
 fn show_watch(lent: &mut [u64], watch: Watch)
     requires { 43 ≤ length lent.old }
     ensures { lent.new ≡ sets lent.old 29 (watch_shown watch) }
@@ -176,8 +170,7 @@ fn show_end(lent: &mut [u64], e: End, watch: Watch) -> u64
 // ACTIVE_SEND_LOCAL, 2 PASSIVE_WAIT, 3 SEND_LOCAL_REMOTE, 4 SEND_LOCAL_REMOTE_OK, 5 SEND_ANY; then the frames of each of the
 // newest eleven intervals, as digits of four bits; then the lengths and thresholds of the two windows, of each the ticks, errors,
 // error total and event total, the stamp, and whether the present second has a bad frame. Fewer than 43 numbers lent is 9.
-#[unsafe(no_mangle)]
-pub extern "C" fn oam_show(state: &[u8], numbers: &mut [u64]) -> u64
+pub fn oam_show(state: &[u8], numbers: &mut [u64]) -> u64
     ensures { Showing (end_shown (unpacked state.now) (watch_in state.now) (length numbers.old)) numbers.old result numbers.new }
 {
     match oam_packing::unpack(state) {

@@ -8,8 +8,7 @@ use link_end::MaybeEnd;
 use oam_outcomes::store_outcome;
 
 // Starts a remote loopback.
-#[unsafe(no_mangle)]
-pub extern "C" fn oam_start(state: &mut [u8], out: &mut [u8]) -> u64
+pub fn oam_start(state: &mut [u8], out: &mut [u8]) -> u64
     ensures { Stepping (outcome_by (requesting start) (length out.old)) (output_by (requesting start)) (unpacked state.old) state.old out.old result state.new out.new }
 {
     match oam_packing::unpack(state) {
@@ -19,8 +18,7 @@ pub extern "C" fn oam_start(state: &mut [u8], out: &mut [u8]) -> u64
 }
 
 // Stops a remote loopback.
-#[unsafe(no_mangle)]
-pub extern "C" fn oam_stop(state: &mut [u8], out: &mut [u8]) -> u64
+pub fn oam_stop(state: &mut [u8], out: &mut [u8]) -> u64
     ensures { Stepping (outcome_by (requesting stop) (length out.old)) (output_by (requesting stop)) (unpacked state.old) state.old out.old result state.new out.new }
 {
     match oam_packing::unpack(state) {
@@ -30,8 +28,7 @@ pub extern "C" fn oam_stop(state: &mut [u8], out: &mut [u8]) -> u64
 }
 
 // Asks for the peer's variables. A descriptor is one number, the branch above the leaf's sixteen bits.
-#[unsafe(no_mangle)]
-pub extern "C" fn oam_request(descriptors: &[u32], state: &mut [u8], out: &mut [u8]) -> u64
+pub fn oam_request(descriptors: &[u32], state: &mut [u8], out: &mut [u8]) -> u64
     ensures { Stepping (outcome_by (requesting (variables descriptors.now)) (length out.old)) (output_by (requesting (variables descriptors.now))) (unpacked state.old) state.old out.old result state.new out.new }
 {
     match oam_packing::unpack(state) {
@@ -41,8 +38,7 @@ pub extern "C" fn oam_request(descriptors: &[u32], state: &mut [u8], out: &mut [
 }
 
 // Notifies the peer of events, each lent as seven numbers: its type and its six values.
-#[unsafe(no_mangle)]
-pub extern "C" fn oam_notify(events: &[u64], state: &mut [u8], out: &mut [u8]) -> u64
+pub fn oam_notify(events: &[u64], state: &mut [u8], out: &mut [u8]) -> u64
     ensures { Stepping (outcome_by (requesting (notify events.now)) (length out.old)) (output_by (requesting (notify events.now))) (unpacked state.old) state.old out.old result state.new out.new }
 {
     match oam_packing::unpack(state) {
@@ -52,8 +48,7 @@ pub extern "C" fn oam_notify(events: &[u64], state: &mut [u8], out: &mut [u8]) -
 }
 
 // Sends an organization's data with its OUI.
-#[unsafe(no_mangle)]
-pub extern "C" fn oam_organization(oui: u32, octets: &[u8], state: &mut [u8], out: &mut [u8]) -> u64
+pub fn oam_organization(oui: u32, octets: &[u8], state: &mut [u8], out: &mut [u8]) -> u64
     ensures { Stepping (outcome_by (requesting (tell oui octets.now)) (length out.old)) (output_by (requesting (tell oui octets.now))) (unpacked state.old) state.old out.old result state.new out.new }
 {
     match oam_packing::unpack(state) {
@@ -64,8 +59,7 @@ pub extern "C" fn oam_organization(oui: u32, octets: &[u8], state: &mut [u8], ou
 
 // Answers the peer's descriptors by the attributes that the caller holds, lent as two numbers each, descriptor and width, and
 // their values one after another.
-#[unsafe(no_mangle)]
-pub extern "C" fn oam_respond(
+pub fn oam_respond(
     attributes: &[u32],
     values: &[u8],
     descriptors: &[u32],

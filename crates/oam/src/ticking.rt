@@ -82,13 +82,7 @@ fn store_tick(t: CountedTick, events: &mut [u64], state: &mut [u8]) -> u64
 
 // One tick of 100 ms with the bad frames counted since the last one. The events that arise are stored from the start of a slice
 // of fourteen numbers or more, seven an event; fewer is 9, which leaves the end as it is and takes no count.
-#[unsafe(no_mangle)]
-pub extern "C" fn oam_tick(
-    bad_frames: u64,
-    events: &mut [u64],
-    state: &mut [u8],
-    out: &mut [u8],
-) -> u64
+pub fn oam_tick(bad_frames: u64, events: &mut [u64], state: &mut [u8], out: &mut [u8]) -> u64
     ensures { Ticking (ticked_by bad_frames (length events.old) (length out.old) (watch_in state.old)) (ticked_output (length events.old)) (unpacked state.old) events.old state.old out.old result events.new state.new out.new }
 {
     match oam_packing::unpack(state) {

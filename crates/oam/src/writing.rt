@@ -12,8 +12,7 @@ use oam_outcomes::written_number;
 
 // Writes an Information frame. A TLV is lent as its seven fields in order, or as no number where there is none; numbers
 // that are neither are 10.
-#[unsafe(no_mangle)]
-pub extern "C" fn oam_write_information(
+pub fn oam_write_information(
     source: u64,
     flags: u16,
     local: &[u64],
@@ -37,8 +36,7 @@ pub extern "C" fn oam_write_information(
 
 // Writes an Event Notification frame with its number and 1 to 16 events, each lent as seven numbers: its type and its six
 // values.
-#[unsafe(no_mangle)]
-pub extern "C" fn oam_write_notification(
+pub fn oam_write_notification(
     source: u64,
     flags: u16,
     number: u16,
@@ -51,13 +49,7 @@ pub extern "C" fn oam_write_notification(
 }
 
 // Writes a Variable Request frame. A descriptor is one number, the branch above the leaf's sixteen bits.
-#[unsafe(no_mangle)]
-pub extern "C" fn oam_write_request(
-    source: u64,
-    flags: u16,
-    descriptors: &[u32],
-    out: &mut [u8],
-) -> u64
+pub fn oam_write_request(source: u64, flags: u16, descriptors: &[u32], out: &mut [u8]) -> u64
     ensures { WritingFrame true (message_of source flags (request descriptors.now)) out.old result out.new }
 {
     written_number(frame_writer::write_request(source, flags, descriptors, out))
@@ -65,29 +57,21 @@ pub extern "C" fn oam_write_request(
 
 // Writes a Variable Response frame of containers as they stand in a frame, none or more; octets that are not containers to the
 // last of them are 10.
-#[unsafe(no_mangle)]
-pub extern "C" fn oam_write_response(
-    source: u64,
-    flags: u16,
-    containers: &[u8],
-    out: &mut [u8],
-) -> u64
+pub fn oam_write_response(source: u64, flags: u16, containers: &[u8], out: &mut [u8]) -> u64
     ensures { WritingFrame (all_containers containers.now) (message_of source flags (response (containers_of containers.now))) out.old result out.new }
 {
     written_number(frame_writer::write_response(source, flags, containers, out))
 }
 
 // Writes a Loopback Control frame.
-#[unsafe(no_mangle)]
-pub extern "C" fn oam_write_loopback(source: u64, flags: u16, command: u8, out: &mut [u8]) -> u64
+pub fn oam_write_loopback(source: u64, flags: u16, command: u8, out: &mut [u8]) -> u64
     ensures { WritingFrame true (message_of source flags (loopback command)) out.old result out.new }
 {
     written_number(frame_writer::write_loopback(source, flags, command, out))
 }
 
 // Writes an organization specific frame: the OUI and the organization's data.
-#[unsafe(no_mangle)]
-pub extern "C" fn oam_write_organization(
+pub fn oam_write_organization(
     source: u64,
     flags: u16,
     oui: u32,

@@ -1,5 +1,7 @@
 // An end as 27 numbers, those of its parts one after another, as `oam_show` shows it. What they are is said in `oam_packing`, beside
 // the octets of each part.
+#![tactic(auto)]
+
 ghost use Rattle.std.specs.Prelude.{◌≡◌, [], ◌∷◌};
 ghost use Rattle.oam_packing.specs.Parts.{together};
 ghost use Rattle.oam_packing.specs.Settings.{settings_numbers};
@@ -62,6 +64,7 @@ fn join_numbers(
     ]
 }
 
+#[tactic(auto, unfolding(oam_packing::specs::Numbers::numbers_of))]
 pub fn numbers_of(e: End) -> [u64; 27]
     ensures { result ≡ numbers_of e }
 {

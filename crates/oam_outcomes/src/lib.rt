@@ -1,5 +1,7 @@
 // What an entry comes to, as one number: of one that writes a frame or a line, and of a call on an end that is kept in octets,
 // whose end is then stored.
+#![tactic(auto)]
+
 ghost use Rattle.std.specs.Prelude.{◌≡◌};
 ghost use Rattle.link.specs.Outcomes.{outcome};
 ghost use Rattle.oam_outcomes.specs.Written.{written_number};
@@ -30,6 +32,7 @@ fn kind_of(shown: News) -> u64
 }
 
 // Bits 0 to 7 the answer, 8 to 39 the length written, 40 to 47 the State octet after the call, 48 and 49 what is shown.
+#[tactic(auto, unfolding(crate::specs::Stepped::stepped_number))]
 fn stepped_number(o: Outcome) -> u64
     ensures { result ≡ stepped_number o }
 {
@@ -41,6 +44,7 @@ fn stepped_number(o: Outcome) -> u64
 }
 
 // What an entry itself refuses, before the machine is asked: the end stays as it is, and the number tells its State octet.
+#[tactic(auto, unfolding(crate::specs::Stepped::stepped_number))]
 pub fn refused_number(answer: u8, e: End) -> u64
     ensures { result ≡ stepped_number (outcome e answer 0 News.Nothing) }
 {
@@ -49,6 +53,7 @@ pub fn refused_number(answer: u8, e: End) -> u64
 }
 
 // How every call ends: the end after it is stored, unless it was refused.
+#[tactic(auto, unfolding(crate::specs::Stepped::stepped_state))]
 pub fn store_outcome(o: Outcome, state: &mut [u8]) -> u64
     ensures { (result ≡ stepped_number o) × (state.new ≡ stepped_state o state.old) }
 {

@@ -1,5 +1,5 @@
 -- Parts one after another, and tests of octets that several parts share.
-use Rattle.std.specs.Prelude.{ℕ, ◌+◌, List, [], ◌∷◌, Bool, true, ◌&&◌, ◌||◌, leb, eqb, get_or, take, drop}
+use Rattle.std.specs.Prelude.{ℕ, ◌+◌, List, [], ◌∷◌, Bool, ◌||◌, leb, eqb, get_or, take, drop}
 use Rattle.std.proofs.lemmas.List.Edits.{sets}
 use Rattle.frame_writer.specs.Encode.{joined}
 use Rattle.octets.specs.Octets.{zeros}

@@ -3,6 +3,8 @@
 // Each part of an end is a module of its own, which alone knows the part's octets, and so is the watch, which stands behind
 // them. They are joined here, and this place knows only their lengths. The octets of an end that keeps to its ranges, beside
 // those of a proper watch in its phase, are unpacked to it, and no other octets are (`theorems_packing`).
+#![tactic(auto)]
+
 mod link;
 mod meter;
 mod own;
@@ -41,6 +43,7 @@ const WATCH: usize = OWN + own::LENGTH;
 pub const STATE_LENGTH: usize = WATCH + watches::LENGTH;
 
 // Whether every part's octets are those of some such part.
+#[tactic(auto, unfolding(crate::specs::Octets::is_state))]
 fn is_state(state: &[u8]) -> bool
     requires { length state.now ≡ state_length }
     ensures { result ≡ is_state state.now }
@@ -54,6 +57,7 @@ fn is_state(state: &[u8]) -> bool
 }
 
 // The end whose parts stand in the octets of a state, or 10 where it does not keep to its ranges.
+#[tactic(auto, unfolding(crate::specs::Octets::end_of))]
 fn end_of(state: &[u8]) -> MaybeEnd
     requires { length state.now ≡ state_length }
     ensures { result ≡ checked (end_of state.now) }
@@ -69,6 +73,7 @@ fn end_of(state: &[u8]) -> MaybeEnd
 }
 
 // The watch whose octets stand in those of a state.
+#[tactic(auto, unfolding(crate::specs::Octets::watch_held))]
 fn watch_held(state: &[u8]) -> Watch
     requires { length state.now ≡ state_length }
     ensures { result ≡ watch_held state.now }
@@ -77,6 +82,7 @@ fn watch_held(state: &[u8]) -> Watch
 }
 
 // Whether they are those of a watch in the phase of the end that stands before it.
+#[tactic(auto, unfolding(crate::specs::Octets::is_watched))]
 fn is_watched(state: &[u8]) -> bool
     requires { length state.now ≡ state_length }
     ensures { result ≡ is_watched state.now }
@@ -91,6 +97,7 @@ fn is_watched(state: &[u8]) -> bool
 }
 
 // The end that a caller keeps in some octets, or 10 where no end is packed to them with a watch beside it.
+#[tactic(auto, unfolding(crate::specs::Octets::unpacked))]
 pub fn unpack(state: &[u8]) -> MaybeEnd
     ensures { result ≡ unpacked state.now }
 {
@@ -134,6 +141,7 @@ pub fn pack(e: End, state: &mut [u8])
 }
 
 // The watch that a caller keeps in the octets of a state; of a slice of another length one of zeros.
+#[tactic(auto, unfolding(crate::specs::Octets::watch_in))]
 pub fn watch_in(state: &[u8]) -> Watch
     ensures { result ≡ watch_in state.now }
 {

@@ -7,12 +7,14 @@ use octets::bit_of;
 
 pub(crate) const LENGTH: usize = 2;
 
+#[tactic(auto, unfolding(crate::specs::Link::link_octets))]
 pub(crate) fn link_octets(l: Link) -> [u8; 2]
     ensures { result ≡ link_octets l }
 {
     [bit_of(l.up), l.lost]
 }
 
+#[tactic(auto, unfolding(crate::specs::Link::link_from))]
 pub(crate) fn link_from(octets: &[u8]) -> Link
     requires { length octets.now ≡ link_length }
     ensures { result ≡ link_from octets.now }

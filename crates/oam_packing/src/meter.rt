@@ -8,6 +8,7 @@ use octets::split_six;
 pub(crate) const LENGTH: usize = 7;
 
 // Of a meter that is bounded nothing is cut off.
+#[tactic(auto, unfolding(crate::specs::Meter::meter_octets))]
 pub(crate) fn meter_octets(m: Meter) -> [u8; 7]
     ensures { result ≡ meter_octets m }
 {
@@ -30,6 +31,7 @@ fn wide(octet: u8) -> u64
     octet as u64
 }
 
+#[tactic(auto, unfolding(crate::specs::Meter::meter_from))]
 pub(crate) fn meter_from(octets: &[u8]) -> Meter
     requires { length octets.now ≡ meter_length }
     ensures { result ≡ meter_from octets.now }

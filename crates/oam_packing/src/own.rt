@@ -7,6 +7,7 @@ use octets::{bit_of, split_six};
 
 pub(crate) const LENGTH: usize = 7;
 
+#[tactic(auto, unfolding(crate::specs::Own::own_octets))]
 pub(crate) fn own_octets(o: Own) -> [u8; 7]
     ensures { result ≡ own_octets o }
 {
@@ -23,6 +24,7 @@ pub(crate) fn own_octets(o: Own) -> [u8; 7]
     ]
 }
 
+#[tactic(auto, unfolding(crate::specs::Own::own_from))]
 pub(crate) fn own_from(octets: &[u8]) -> Own
     requires { length octets.now ≡ own_length }
     ensures { result ≡ own_from octets.now }

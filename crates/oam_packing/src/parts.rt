@@ -25,6 +25,7 @@ fn is_zeros(octets: &[u8]) -> bool
 }
 
 // Whether octets say that something is held, or are all 0.
+#[tactic(auto, unfolding(crate::specs::Parts::held_or_zero))]
 pub(crate) fn is_held_or_zero(octets: &[u8]) -> bool
     requires { 0 < length octets.now }
     ensures { result ≡ held_or_zero octets.now }

@@ -50,6 +50,7 @@ fn wide(octet: u8) -> u16
     octet as u16
 }
 
+#[tactic(auto, unfolding(crate::specs::Peers::peer_octets))]
 pub(crate) fn peer_octets(p: Peer) -> [u8; 19]
     ensures { result ≡ peer_octets p }
 {
@@ -85,6 +86,7 @@ pub(crate) fn peer_octets(p: Peer) -> [u8; 19]
 }
 
 // What the record says that stands in them, whether it is held or not.
+#[tactic(auto, unfolding(crate::specs::Peers::information_from))]
 fn information_from(octets: &[u8]) -> Information
     requires { length octets.now ≡ peer_length }
     ensures { result ≡ information_from octets.now }
@@ -100,6 +102,7 @@ fn information_from(octets: &[u8]) -> Information
     }
 }
 
+#[tactic(auto, unfolding(crate::specs::Peers::peer_from, crate::specs::Peers::information_from))]
 pub(crate) fn peer_from(octets: &[u8]) -> Peer
     requires { length octets.now ≡ peer_length }
     ensures { result ≡ peer_from octets.now }
@@ -112,6 +115,7 @@ pub(crate) fn peer_from(octets: &[u8]) -> Peer
     }
 }
 
+#[tactic(auto, unfolding(crate::specs::Peers::is_peer))]
 pub(crate) fn is_peer(octets: &[u8]) -> bool
     requires { length octets.now ≡ peer_length }
     ensures { result ≡ is_peer octets.now }

@@ -6,12 +6,14 @@ use link_loopback::Role;
 
 pub(crate) const LENGTH: usize = 1;
 
+#[tactic(auto, unfolding(crate::specs::Roles::role_octets))]
 pub(crate) fn role_octets(role: Role) -> [u8; 1]
     ensures { result ≡ role_octets role }
 {
     [role.number()]
 }
 
+#[tactic(auto, unfolding(crate::specs::Roles::role_from))]
 pub(crate) fn role_from(octets: &[u8]) -> Role
     requires { length octets.now ≡ role_length }
     ensures { result ≡ role_from octets.now }

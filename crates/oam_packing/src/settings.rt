@@ -8,6 +8,7 @@ use octets::split_six;
 
 pub(crate) const LENGTH: usize = 17;
 
+#[tactic(auto, unfolding(crate::specs::Settings::settings_octets))]
 pub(crate) fn settings_octets(s: Settings) -> [u8; 17]
     ensures { result ≡ settings_octets s }
 {
@@ -45,6 +46,7 @@ fn source_from(octets: &[u8]) -> u64
     )
 }
 
+#[tactic(auto, unfolding(crate::specs::Settings::settings_from))]
 pub(crate) fn settings_from(octets: &[u8]) -> Settings
     requires { length octets.now ≡ settings_length }
     ensures { result ≡ settings_from octets.now }

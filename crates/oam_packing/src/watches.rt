@@ -21,6 +21,7 @@ pub(crate) const LENGTH: usize = STAMP + 3;
 // What the upper four octets of a number of eight count.
 const UPPER: u64 = 0x100000000;
 
+#[tactic(auto, unfolding(crate::specs::Watches::frames_octets))]
 pub(crate) fn frames_octets(w: Window) -> [u8; 24]
     ensures { result ≡ frames_octets w }
 {
@@ -59,6 +60,7 @@ pub(crate) fn frames_octets(w: Window) -> [u8; 24]
     ]
 }
 
+#[tactic(auto, unfolding(crate::specs::Watches::seconds_octets))]
 pub(crate) fn seconds_octets(w: Window) -> [u8; 16]
     ensures { result ≡ seconds_octets w }
 {
@@ -88,6 +90,7 @@ pub(crate) fn seconds_octets(w: Window) -> [u8; 16]
     ]
 }
 
+#[tactic(auto, unfolding(crate::specs::Watches::stamp_octets))]
 pub(crate) fn stamp_octets(stamp: u16, bad: bool) -> [u8; 3]
     ensures { result ≡ stamp_octets stamp bad }
 {
@@ -105,6 +108,7 @@ fn total_from(octets: &[u8]) -> u64
     (upper as u64) * UPPER + (lower as u64)
 }
 
+#[tactic(auto, unfolding(crate::specs::Watches::frames_from))]
 fn frames_from(octets: &[u8]) -> Window
     requires { length octets.now ≡ total frames_widths }
     ensures { result ≡ frames_from octets.now }
@@ -119,6 +123,7 @@ fn frames_from(octets: &[u8]) -> Window
     }
 }
 
+#[tactic(auto, unfolding(crate::specs::Watches::seconds_from))]
 fn seconds_from(octets: &[u8]) -> Window
     requires { length octets.now ≡ total seconds_widths }
     ensures { result ≡ seconds_from octets.now }
@@ -133,6 +138,7 @@ fn seconds_from(octets: &[u8]) -> Window
     }
 }
 
+#[tactic(auto, unfolding(crate::specs::Watches::watch_from))]
 pub(crate) fn watch_from(octets: &[u8]) -> Watch
     requires { length octets.now ≡ watch_length }
     ensures { result ≡ watch_from octets.now }

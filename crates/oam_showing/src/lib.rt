@@ -4,6 +4,8 @@
 // The answer of a function is a refusal's number, or 0; `read_all` and `read_descriptors` have a count above it. What is refused
 // leaves the lent slices as they were. The parts that rows are made of are those of the message that the frame says, and the
 // numbers of skipped TLVs those of the walk over its body (`proofs/Taking.antt`).
+#![tactic(auto)]
+
 mod asking;
 mod lines;
 mod reading;

@@ -26,6 +26,7 @@ fn show_line(lent: &mut [u64], line: Line) -> u64
 
 // Reads a line. Its nine values are stored in order; a values slice shorter than that is 9, and a text that is not one line
 // in its stated form is 14.
+#[tactic(auto, unfolding(crate::specs::Lines::text_shown))]
 pub fn read_line(text: &[u8], values: &mut [u64]) -> u64
     ensures { Showing (text_shown text.now (length values.old)) values.old result values.new }
 {

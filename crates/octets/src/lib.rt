@@ -1,5 +1,7 @@
 // What every crate stands on: numbers in octets both ways, octets stored in a lent output, bits, tests that are joined, and the
 // layout of a frame by name.
+#![tactic(auto)]
+
 mod bits;
 mod fitting;
 mod joining;

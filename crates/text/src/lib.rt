@@ -2,6 +2,8 @@
 //
 // Every writer here promises the same: where its text fits from octet `at`, it is stored there and the octet after
 // it is the result; where it does not fit, nothing is stored and `at` is the result.
+#![tactic(auto)]
+
 mod decimal;
 mod room;
 mod words;

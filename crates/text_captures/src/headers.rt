@@ -12,6 +12,7 @@ const MAGIC: u32 = 0xa1b2c3d4;
 const LINK_TYPE: u32 = 1;
 
 // The number of the four octets from octet at.
+#[tactic(auto, unfolding(crate::specs::Captures::number))]
 pub(crate) fn number(little: bool, octets: &[u8], at: usize) -> u32
     requires { at + 4 ≤ length octets.now }
     ensures { result ≡ number little octets.now at }
@@ -27,6 +28,7 @@ pub(crate) fn number(little: bool, octets: &[u8], at: usize) -> u32
 }
 
 // Whether a file's numbers are little-endian.
+#[tactic(auto, unfolding(crate::specs::Captures::is_little))]
 pub(crate) fn is_little(header: &[u8]) -> bool
     requires { 24 ≤ length header.now }
     ensures { result ≡ is_little header.now }
@@ -35,6 +37,7 @@ pub(crate) fn is_little(header: &[u8]) -> bool
 }
 
 // Whether a file's header is one of a capture that is read here, with its numbers in that order.
+#[tactic(auto, unfolding(crate::specs::Captures::is_capture))]
 pub(crate) fn is_capture(little: bool, header: &[u8]) -> bool
     requires { (24 ≤ length header.now) × (little ≡ is_little header.now) }
     ensures { result ≡ is_capture header.now }

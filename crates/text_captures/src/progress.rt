@@ -6,7 +6,7 @@ use crate::headers::{FILE_HEADER, RECORD_HEADER, is_capture, is_little, number};
 use text_listing::Entry;
 
 // What of the file is awaited: its header, a record's header, a record's octets; or nothing any more.
-#[derive(Drop)]
+#[derive(Clone, Copy, Drop)]
 pub enum Awaited {
     FileHeader,
     RecordHeader,
@@ -16,7 +16,7 @@ pub enum Awaited {
 
 // What is awaited, the number of the present row, the file's byte order, the octets that have come of what is awaited, and the
 // present record's two lengths.
-#[derive(Drop)]
+#[derive(Clone, Copy, Drop)]
 pub struct Progress {
     awaited: Awaited,
     number: u64,

@@ -27,6 +27,7 @@ fn no_leading_zero(field: &[u8]) -> bool
 }
 
 // A number with one more digit; bad where the octet is no digit, or the number goes beyond 64 bits.
+#[tactic(auto, unfolding(crate::specs::Digits::with_digit))]
 fn with_digit(n: u64, octet: u8) -> Number
     ensures { result ≡ with_digit n octet }
 {

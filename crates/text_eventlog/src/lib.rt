@@ -2,6 +2,8 @@
 //
 // A line that was written reads back as what was meant, and a line that reads is the one that would be written for its
 // values (the crate `theorems_log`).
+#![tactic(auto)]
+
 mod digits;
 mod range;
 mod reader;

@@ -8,6 +8,7 @@ use frame_writer::MOST_EVENTS;
 const LAST_POSITION: u64 = MOST_EVENTS as u64;
 
 // Whether a number, a position and an event's seven numbers may stand in a line.
+#[tactic(auto, unfolding(crate::specs::Line::in_range_up_to))]
 pub(crate) fn in_range(number: u64, position: u64, event: &[u64]) -> bool
     ensures { result ≡ in_range number position event.now }
 {

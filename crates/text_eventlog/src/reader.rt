@@ -22,6 +22,7 @@ fn field_end(text: &[u8], at: usize) -> usize
 }
 
 // What nine values say, if each is in its range.
+#[tactic(auto, unfolding(crate::specs::Line::read_values))]
 fn read_values(v: &[u64]) -> Reading
     requires { length v.now ≡ 9 }
     ensures { result ≡ read_values last_position v.now }
@@ -69,6 +70,7 @@ fn read_fields(text: &[u8]) -> Reading
 }
 
 // What a line of the log says, or 14 for a text that is not one line in its stated form.
+#[tactic(auto, unfolding(crate::specs::Line::read_line_up_to))]
 pub fn read_line(text: &[u8]) -> Reading
     ensures { result ≡ read_line text.now }
 {

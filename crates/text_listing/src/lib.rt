@@ -4,6 +4,8 @@
 // `feed` from place to place until the input is taken, then `finish` for a last line without newline. The working frame is
 // lent too; with fewer than 1,514 octets it is too short for some frames, whose rows then say 9. A caller whose frames come
 // otherwise puts their rows itself: `frame_entry` or `length_entry`, and `put_row`.
+#![tactic(auto)]
+
 mod feeding;
 mod line;
 mod row;

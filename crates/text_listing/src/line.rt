@@ -8,7 +8,7 @@ use text::NEWLINE;
 
 // The line so far: its whole octets, or these and the first digit of the next; or it has met a foreign character.
 // One octet more than a frame has stands for any number above.
-#[derive(Drop)]
+#[derive(Clone, Copy, Drop)]
 pub enum Line {
     Whole(usize),
     Half(usize, u8),

@@ -8,7 +8,7 @@ use frame::Judgement;
 use text::{NEWLINE, TAB};
 
 // What a row says: the code and the flags of an accepted frame and how many TLVs were skipped, or the number of a refusal.
-#[derive(Drop)]
+#[derive(Clone, Copy, Drop)]
 pub enum Entry {
     Accepted(u8, u16, usize),
     Refused(u8),

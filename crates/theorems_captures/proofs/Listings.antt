@@ -22,7 +22,7 @@ use Rattle.theorems_listing.proofs.Texts.{too_long}
 use Rattle.text_captures.specs.declared.progress.Awaited.TheVariants.{RecordHeader}
 use Rattle.text_captures.specs.declared.progress.Progress.{Progress}
 use Rattle.text_captures.specs.declared.progress.Said.TheVariants.{NoRow, Row}
-use Rattle.text_captures.specs.Captures.{number, is_little, is_capture, stored_of, original_of, record_size, is_whole, record_entry, entries_up_to, entries, numbered, capture_listing}
+use Rattle.text_captures.specs.Captures.{is_little, is_capture, stored_of, original_of, record_size, is_whole, record_entry, entries_up_to, entries, numbered, capture_listing}
 use Rattle.text_captures.specs.Feeding.{begun, is_last, awaiting_frame, awaiting_nothing, after_file_header, empty_entry, after_frame, after_record_header, row_said, last_row, State, captures}
 use Rattle.theorems_captures.specs.Runs.{run}
 use Rattle.theorems_captures.proofs.Numbers.{number_same, little_of_same, capture_same, same_stored}

@@ -3,7 +3,7 @@
 use Prim.Native.Nat.{ℕ, ◌-◌, ◌^◌, ◌<◌, ◌≤◌}
 use mathlib.Core.Path.{◌≡◌, refl, sym, ap, ◌∙◌}
 use mathlib.Core.List.{List, [], ◌∷◌, ◌++◌, append_assoc, append-nil}
-use mathlib.Core.Bool.{true, false}
+use mathlib.Core.Bool.{true}
 use native.Mathlib.Omega.{arith}
 use native.Mathlib.Nat.{zero-add}
 use borrow.Author.Tests.{leb-true, ltb-true, eqb-true}
@@ -11,8 +11,8 @@ use lib.ListN.{length, get_or, drop, replicate}
 use lib.Dec.{leb, ltb, eqb}
 use Rattle.octets.specs.Octets.{Octets, num, oct}
 use Rattle.octets.specs.Layout.{shortest_frame, body_start, events_start, data_start}
-use Rattle.frame_tlvs.specs.Walk.{Walk, parts, also, listed, skipped_in}
-use Rattle.frame_body.specs.Information.{information_walk, information_parts}
+use Rattle.frame_tlvs.specs.Walk.{parts, also, listed}
+use Rattle.frame_body.specs.Information.{information_walk}
 use Rattle.frame_tlvs.specs.Events.{event_walk}
 use Rattle.frame_body.specs.Variables.{descriptor_walk, container_walk}
 use Rattle.frame.specs.Frame.{Body, information, notification, request, response, loopback, organization, Message, code_of, Answer, refused, accepted, says, says_all, informed, notified, body_answer, decode}

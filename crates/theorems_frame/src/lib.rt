@@ -3,3 +3,4 @@
 // form, handed to the writer of its code, gives that frame (proofs/Handing.antt), what answers descriptors, and how many of them
 // (proofs/Responding.antt), and that who takes the steps of a body counts the TLVs that are skipped, and how many these can be
 // (proofs/Skipping.antt). This crate has no code.
+#![tactic(auto)]

@@ -13,6 +13,7 @@ module _ {A : Type 0} where
 
   -- what holds at some element together with what holds at all of them
   pub meet : {P Q : A → Type 0} {l : List A} → All P l → Some Q l → Some (λ x. P x × Q x) l
+  meet {P = P} {Q = Q} none_left x3 = elim x3 [ ]
   meet (also p a) (here q) = here (p, q)
   meet (also p a) (there s) = there (meet a s)
 

@@ -1,0 +1,18 @@
+use Prim.Native.Nat.{◌+◌, ◌-◌, ◌≤◌}
+use mathlib.Core.Path.{◌≡◌}
+use native.Mathlib.Numerals.{add-one}
+use native.Mathlib.Omega.{arith}
+use borrow.Author.Rules.{rules}
+use lib.ListN.{length, get_or, drop, drop_of_length-le}
+use lib.Seq.{drop-cons}
+use Rattle.frame_variables.specs.Answers.{measured_answers}
+use Rattle.frame_variables.proofs.Answering.{answer_within}
+use Rattle.frame_variables.proofs.answers.measured_answers.Given as goal
+
+abbrev pub invariant-loop-i : goal.invariant-loop-i
+invariant-loop-i l = (l.i ≤ length l.descriptors)
+    × (l.sum + l.left ≤ l.room)
+    × (l.sum + measured_answers l.left l.attributes (drop l.i l.descriptors) ≡ measured_answers l.room l.attributes l.descriptors)
+
+abbrev pub decreases-loop-i : goal.decreases-loop-i
+decreases-loop-i l = length l.descriptors - l.i

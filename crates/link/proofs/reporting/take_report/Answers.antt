@@ -1,0 +1,20 @@
+use mathlib.Core.Path.{sym, ◌∙◌}
+use lib.ListN.{length}
+use Rattle.link_end.specs.Reporting.{reported_due}
+use Rattle.link_end.specs.declared.News.TheVariants.{Nothing}
+use Rattle.link.specs.Reports.{report_of, report_output}
+use Rattle.link.proofs.Ending.{concludes}
+use Rattle.link.proofs.reporting.take_report.Goals as goal
+
+pub returns-then-too_short : goal.returns-then-too_short
+unfolding report_of report_output
+returns-then-too_short c = let short = sym c.too_short.ensures ∙ c.if-too_short.true in
+    (rw short c.outcome.ensures, rw short)
+
+pub returns : goal.returns
+unfolding report_of report_output
+returns c = let a = c.args in
+    let long = sym c.too_short.ensures ∙ c.if-too_short.false in
+    let d = c.report_due-next.ensures in
+    let w = c.write_owed-length.ensures in
+    (rw long (rw (c.outcome-2.ensures, c.after_sending.ensures, w.0, d) (concludes (length a.out.now) Nothing (reported_due a.report a.e))), rw long (rw (w.1, d)))

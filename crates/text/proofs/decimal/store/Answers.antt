@@ -1,0 +1,27 @@
+use Prim.Native.Nat.{ℕ, ◌+◌, ◌/◌, ◌%◌, ◌-◌, ◌≤◌, ◌<◌}
+use mathlib.Core.Path.{◌≡◌, sym, ap, ◌∙◌}
+use native.Mathlib.Omega.{arith}
+use borrow.Author.Rules.{rules}
+use mathlib.Core.List.{List, [], ◌∷◌}
+use lib.ListN.{length, set, length-set, length-append}
+use lib.Seq.{sets}
+use Rattle.text.specs.Decimal.{decimal_in, decimal}
+use Rattle.text.proofs.Decimals.{last_digit}
+use Rattle.octets.proofs.Stores.{sets_last, empty}
+use Rattle.text.proofs.decimal.store.Goals as goal
+
+-- the whole is what storing the rest's digits gives, and so many they are
+abbrev Left : List ℕ → List ℕ → ℕ → ℕ → ℕ → Type 0
+Left whole out at left rest = (places : ℕ) × (left ≡ length (decimal_in places rest)) × (whole ≡ sets out at (decimal_in places rest))
+
+one_stored : (whole out : List ℕ) (at left rest : ℕ) → 0 < left → Left whole out at left rest
+    → Left whole (set out (at + (left - 1)) (48 + rest % 10)) at (left - 1) (rest / 10)
+one_stored whole out at left rest h (places, count, e) =
+    let some : 0 < length (decimal_in places rest) = omega arith in
+    let last = last_digit places rest some in
+    let before = decimal_in last.0 (rest / 10) in
+    let less : left - 1 ≡ length before = omega (arith, ap length last.1 ∙ length-append before ((48 + rest % 10) ∷ [])) in
+    (last.0, less, e ∙ ap (sets out at) last.1 ∙ sets_last out at before (48 + rest % 10) ∙ rw less)
+
+pub loop-left-preserved : goal.loop-left-preserved
+loop-left-preserved c = let a = c.args in let l = c.loop-left in (simp length-set l.invariant.0, omega arith, one_stored _ l.out a.at l.left l.rest c.loop-left-test.true l.invariant.2)

@@ -1,0 +1,22 @@
+use Prim.Native.Nat.{ℕ, ◌+◌, ◌/◌, ◌%◌, ◌-◌, ◌≤◌, ◌<◌}
+use mathlib.Core.Path.{◌≡◌, sym, ap, ◌∙◌}
+use native.Mathlib.Omega.{arith}
+use borrow.Author.Rules.{rules}
+use mathlib.Core.List.{List, [], ◌∷◌}
+use lib.ListN.{length, set, length-set, length-append}
+use lib.Seq.{sets}
+use Rattle.text.specs.Decimal.{decimal_in, decimal}
+use Rattle.text.proofs.Decimals.{last_digit}
+use Rattle.octets.proofs.Stores.{sets_last, empty}
+use Rattle.text.proofs.decimal.store.Given as goal
+
+-- the whole is what storing the rest's digits gives, and so many they are
+abbrev Left : List ℕ → List ℕ → ℕ → ℕ → ℕ → Type 0
+Left whole out at left rest = (places : ℕ) × (left ≡ length (decimal_in places rest)) × (whole ≡ sets out at (decimal_in places rest))
+
+abbrev pub invariant-loop-left : goal.invariant-loop-left
+invariant-loop-left l = (length l.out ≡ length l.initial.out) × (l.left ≤ l.count)
+    × Left (sets l.initial.out l.at (decimal l.n)) l.out l.at l.left l.rest
+
+abbrev pub decreases-loop-left : goal.decreases-loop-left
+decreases-loop-left l = l.left
