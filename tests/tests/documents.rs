@@ -10,13 +10,15 @@ use std::collections::BTreeSet;
 use std::fs;
 use std::path::{Path, PathBuf};
 
-/// The files below a folder with an extension.
+/// The files below a folder with an extension, but for what the prover leaves in a crate's `out`.
 fn files(folder: &Path, extension: &str) -> Vec<PathBuf> {
     let mut found = Vec::new();
     for entry in fs::read_dir(folder).expect("a folder can be listed") {
         let path = entry.expect("an entry can be read").path();
         if path.is_dir() {
-            found.extend(files(&path, extension));
+            if path.file_name().is_some_and(|name| name != "out") {
+                found.extend(files(&path, extension));
+            }
         } else if path.extension().is_some_and(|e| e == extension) {
             found.push(path);
         }
@@ -134,21 +136,113 @@ fn behind_bracket(text: &str) -> &str {
     panic!("a bracket is not closed: {text}");
 }
 
+/// The name of the type of an `impl`, by what stands behind that word and before its bracket.
+fn implementor(head: &str) -> &str {
+    let mut depth = 0;
+    let in_brackets = |c: &char| {
+        depth += i32::from(*c == '<') - i32::from(*c == '>');
+        depth > 0 || *c == '>'
+    };
+    let generics: usize = head
+        .chars()
+        .take_while(in_brackets)
+        .map(char::len_utf8)
+        .sum();
+    let named = head.split(" for ").last().filter(|last| *last != head);
+    let mut found = words(named.unwrap_or(&head[generics..])).filter(|word| !word.is_empty());
+    found.next().unwrap_or("Self")
+}
+
+/// A code text in which `Self` in an `impl` is the name of its type.
+fn self_named(code: &str) -> String {
+    let mut named = String::new();
+    let mut rest = code;
+    while let Some(at) = rest.find("\nimpl").map(|at| at + 1) {
+        let Some(open) = rest[at..].find('{').map(|n| at + n) else {
+            break;
+        };
+        let own = implementor(&rest[at + "impl".len()..open]);
+        let end = rest.len() - behind_bracket(&rest[open..]).len();
+        named.push_str(&rest[..open]);
+        let block: Vec<&str> = rest[open..end].split("Self").collect();
+        named.push_str(&block.join(own));
+        rest = &rest[end..];
+    }
+    named + rest
+}
+
+/// Where the functions of the public traits of a code text begin: they are public without the word.
+fn trait_functions(code: &str) -> Vec<usize> {
+    let mut starts = Vec::new();
+    for (at, _) in code.match_indices("pub trait ") {
+        let Some(open) = code[at..].find('{').map(|n| at + n) else {
+            continue;
+        };
+        let block = &code[open..code.len() - behind_bracket(&code[open..]).len()];
+        let found = block.match_indices(" fn ").map(|(n, f)| open + n + f.len());
+        starts.extend(found);
+    }
+    starts
+}
+
 /// The public functions of a source text.
 fn public_functions(written: &str) -> Vec<Public> {
-    let code = code(written);
-    let marks = ["pub fn ", "pub extern \"C\" fn "];
+    let code = self_named(&code(written));
+    let marks = [
+        "pub fn ",
+        "pub const fn ",
+        "pub extern \"C\" fn ",
+        "pub const extern \"C\" fn ",
+    ];
     let starts = marks.iter().flat_map(|mark| {
         let found = code.match_indices(mark);
         found.map(|(at, mark)| at + mark.len())
     });
     let mut starts: Vec<usize> = starts.collect();
+    starts.extend(trait_functions(&code));
     starts.sort_unstable();
     starts.iter().map(|&at| public_at(&code[at..])).collect()
 }
 
+/// The kind of the clause whose bracket comes next, and what stands before it: `ensures`, `requires` or, of a contract's ghost
+/// value, `ghost`. A clause may have a name, and a star behind its kind.
+fn clause_at_end(before: &str) -> Option<(&'static str, &str)> {
+    let (rest, last) = last_word(before);
+    let (first, second) = last_word(rest);
+    for kind in ["requires", "ensures"] {
+        if last.trim_end_matches('*') == kind {
+            return Some((kind, rest));
+        }
+        if second.trim_end_matches('*') == kind {
+            return Some((kind, first));
+        }
+    }
+    (second == "ghost" && last.ends_with(':')).then_some(("ghost", first))
+}
+
+/// The last word of a text, and what stands before it.
+fn last_word(text: &str) -> (&str, &str) {
+    let text = text.trim_end();
+    text.split_at(text.rfind(char::is_whitespace).map_or(0, |at| at + 1))
+}
+
+/// Where a text has its first `{`, or the semicolon that ends a function without a body: one that stands in no brackets.
+fn body_or_end(text: &str) -> usize {
+    let mut depth = 0;
+    for (at, c) in text.char_indices() {
+        match c {
+            '[' => depth += 1,
+            ']' => depth -= 1,
+            '{' => return at,
+            ';' if depth == 0 => return at,
+            _ => {}
+        }
+    }
+    panic!("a function has a body or an end: {text}");
+}
+
 /// The function whose name begins a text. Its contract ends where its body begins, with the first bracket that no clause
-/// has opened.
+/// has opened, or with a semicolon where it has none.
 fn public_at(text: &str) -> Public {
     let open = text.find('(').expect("a function has parameters");
     let mut rest = behind_bracket(&text[open..]);
@@ -156,18 +250,21 @@ fn public_at(text: &str) -> Public {
     let mut result = None;
     let mut clauses = Vec::new();
     loop {
-        let brace = rest.find('{').expect("a function has a body");
-        let (clause, before) = ["requires", "ensures"]
-            .iter()
-            .find_map(|c| Some((Some(*c), rest[..brace].trim_end().strip_suffix(c)?)))
-            .unwrap_or((None, &rest[..brace]));
+        // A ghost clause ends with a semicolon of its own, and so does each clause of a trait's function.
+        rest = rest.trim_start().trim_start_matches(';');
+        let brace = body_or_end(rest);
+        let clause = clause_at_end(&rest[..brace]).filter(|_| rest[brace..].starts_with('{'));
+        let before = clause.map_or(&rest[..brace], |(_, before)| before);
         result.get_or_insert_with(|| before.trim().trim_start_matches("-> ").to_string());
-        let Some(clause) = clause else { break };
-        clauses.push(clause.to_string());
+        let Some((clause, _)) = clause else { break };
+        if clause != "ghost" {
+            clauses.push(clause.to_string());
+        }
         rest = behind_bracket(&rest[brace..]);
     }
+    let name = text[..open].split('<').next().unwrap_or("");
     Public {
-        name: text[..open].to_string(),
+        name: name.to_string(),
         parameters: parameters.to_string(),
         result: result.unwrap_or_default(),
         clauses,
@@ -329,16 +426,19 @@ fn shape(line: &str) -> String {
     shape
 }
 
-/// The lines of an edit of a source that differ in more than names and numbers.
+/// The lines of an edit of a source that differ in more than names and numbers. (What the same edit renames in a proof is not
+/// looked at.)
 fn misshapen(edit: &str) -> Vec<&str> {
-    if !edit.lines().any(|line| line.starts_with("file: src/")) {
-        return Vec::new();
+    let mut of_source = false;
+    let (mut old, mut new) = (Vec::new(), Vec::new());
+    for line in edit.lines() {
+        if let Some(path) = line.strip_prefix("file: ") {
+            of_source = path.starts_with("src/");
+        } else if of_source {
+            old.extend(line.strip_prefix("old: "));
+            new.extend(line.strip_prefix("new: "));
+        }
     }
-    let of = |mark: &str| {
-        let lines = edit.lines().filter_map(move |line| line.strip_prefix(mark));
-        lines.collect::<Vec<_>>()
-    };
-    let (old, new) = (of("old: "), of("new: "));
     assert_eq!(old.len(), new.len(), "an edit has as many new lines as old");
     let pairs = old.into_iter().zip(new);
     let changed = pairs.filter(|(old, new)| shape(old) != shape(new));
@@ -354,11 +454,14 @@ fn an_edit_that_must_be_refused_keeps_the_shape_of_the_code() {
         assert_eq!(wrong, Vec::<&str>::new(), "{}", edit.display());
         edits += 1;
     }
-    assert!(edits > 40, "only {edits} edits were found");
+    assert!(edits >= 76, "only {edits} edits were found");
     let one = "file: src/a.rt\nold: if n < octets::MOST {\nnew: if n < 59 {\n";
     assert_eq!(misshapen(one), Vec::<&str>::new());
     let other = "file: src/a.rt\nold: if n < most {\nnew: if n < most - 2 {\n";
     assert_eq!(misshapen(other), ["if n < most - 2 {"]);
+    let with_proof =
+        format!("{one}file: proofs/a/f/Answers.antt\nold: n-lt-MOST : x\nnew: n-lt-59 y\n");
+    assert_eq!(misshapen(&with_proof), Vec::<&str>::new());
 }
 
 /// The words of a code text, as names are written.
@@ -402,11 +505,16 @@ fn holding_an_end(code: &str) -> BTreeSet<&str> {
         let found = code.match_indices(mark);
         found.map(|(at, mark)| &code[at + mark.len()..])
     });
+    // (In braces, or as a tuple; a type without parts holds nothing.)
     let declared: Vec<(&str, &str)> = declared
         .filter_map(|rest| {
-            let open = rest.find('{')?;
+            let name = words(rest).next()?;
+            let open = rest.find(['{', '(', ';'])?;
+            if rest[open..].starts_with(';') {
+                return None;
+            }
             let length = rest.len() - behind_bracket(&rest[open..]).len();
-            Some((rest[..open].trim(), &rest[open..length]))
+            Some((name, &rest[open..length]))
         })
         .collect();
     let mut holding = BTreeSet::from(["End"]);
@@ -490,13 +598,27 @@ pub fn b(e: End) -> Ending
 }
 pub fn c() -> End {
 }
+pub struct Pair(End, u8);
+pub struct Mark;
+impl End {
+    pub fn d(self) -> Self {
+    }
+    pub fn e(self) -> u8 {
+    }
+}
+impl From<End> for Pair {
+    pub fn f(end: End) -> Self {
+    }
+}
+pub fn g(e: End) -> Result<End, Mark> {
+}
 ";
     let functions = giving_an_end(source);
     let names: Vec<&str> = functions.iter().map(|f| f.name.as_str()).collect();
-    assert_eq!(names, ["a", "c"]);
+    assert_eq!(names, ["a", "c", "d", "f", "g"]);
     let document = "\n## end\nFirst `a`.\n\nSo says `c(n)`,\nnot `a_not`.\n\nThen `a`.\n";
     let told = paragraph(section(document, "end"), "So says");
-    assert_eq!(not_named(told, &functions), ["a"]);
+    assert_eq!(not_named(told, &functions), ["a", "d", "f", "g"]);
     assert_eq!(paragraph(document, "None"), "");
 }
 
@@ -510,6 +632,14 @@ fn elements(written: &str) -> Vec<String> {
         .collect()
 }
 
+/// The types of std that hold their parts on the heap, as far as a source text names them.
+fn on_the_heap(written: &str) -> BTreeSet<String> {
+    let code = code(written);
+    let kinds = ["Vec", "VecDeque", "String", "Box", "vec"];
+    let found = words(&code).filter(|word| kinds.contains(word));
+    found.map(String::from).collect()
+}
+
 /// Whether a frame comes through the functions of a crate, from an entry to its octets.
 fn makes_frames(name: &str) -> bool {
     name == "frame_writer" || name.split('_').next() == Some("link")
@@ -517,12 +647,16 @@ fn makes_frames(name: &str) -> bool {
 
 /// Whether the one thing that a function may write to is the output.
 fn writes_to_the_output_alone(function: &Public) -> bool {
-    let lent: Vec<&str> = function.parameters.split("&mut ").collect();
-    lent.len() == 2 && lent[0].ends_with("out: ") && lent[1].starts_with("[u8]")
+    let lent: Vec<&str> = function.parameters.split("mut ").collect();
+    let named = |before: &str| {
+        let before = before.trim_end().rsplit_once('&').map_or("", |(b, _)| b);
+        before.trim_end().ends_with("out:")
+    };
+    lent.len() == 2 && named(lent[0]) && lent[1].starts_with("[u8]")
 }
 
-/// A frame is put together in the output that is lent, and nowhere else: where it is made no array holds octets, and the one
-/// thing that a writer may write to is the output.
+/// A frame is put together in the output that is lent, and nowhere else: where it is made no array holds octets, nothing lies on
+/// the heap, and the one thing that a writer may write to is the output.
 #[test]
 fn a_frame_is_written_straight_to_the_output() {
     let crates = repository().join("crates");
@@ -530,7 +664,14 @@ fn a_frame_is_written_straight_to_the_output() {
     making.retain(|name| makes_frames(name));
     assert!(making.len() > 8, "only {making:?} were found");
     for source in making.iter().flat_map(|n| files(&crates.join(n), "rt")) {
-        let mut others = elements(&text(&source));
+        let written = text(&source);
+        assert_eq!(
+            on_the_heap(&written),
+            BTreeSet::new(),
+            "{}",
+            source.display()
+        );
+        let mut others = elements(&written);
         others.retain(|element| !["usize", "u64"].contains(&element.as_str()));
         let source = source.display();
         assert!(others.is_empty(), "{source}: arrays of {others:?}");
@@ -566,6 +707,10 @@ pub fn c(frame: &mut Frame) {
     let functions = public_functions(source);
     let alone: Vec<bool> = functions.iter().map(writes_to_the_output_alone).collect();
     assert_eq!(alone, [true, false, false]);
+    let lived = public_functions("pub fn d<'a>(out: &'a mut [u8]) -> &'a [u8] {\n}\n");
+    assert!(writes_to_the_output_alone(&lived[0]));
+    let held = "fn e(v: &mut Vec<u8>) {\n}\n// Box\n";
+    assert_eq!(on_the_heap(held), BTreeSet::from(["Vec".to_string()]));
 }
 
 const MADE_UP: &str = "\
@@ -594,6 +739,19 @@ pub fn d()
     ensures { z }
 {
 }
+pub fn named<T: Ord>(n: T) -> [u8; 2]
+    ghost k: { ℕ };
+    requires* low { ⌜ x ⌝ }
+    ensures high { result ≡ n }
+    ensures low { y }
+{
+}
+pub trait Counts {
+    ghost laws: { Laws };
+    fn told(&self) -> u8
+        ensures same { result ≡ 1 };
+    fn mute(&self) -> [u8; 4];
+}
 ";
 
 #[test]
@@ -607,13 +765,18 @@ fn a_condition_and_a_silence_are_seen() {
         ("c", "u8", "ensures"),
         ("lines", "", ""),
         ("d", "", "ensures"),
+        ("named", "[u8; 2]", "requires ensures ensures"),
+        ("told", "u8", "ensures"),
+        ("mute", "[u8; 4]", ""),
     ];
     let expected = expected.map(|(a, b, c)| (a.to_string(), b.to_string(), c.to_string()));
     assert_eq!(told, expected);
     let faults = [
         "a has a condition on its caller",
+        "named has a condition on its caller",
         "silent promises nothing",
         "lines promises nothing",
+        "mute promises nothing",
     ];
     assert_eq!(contract_faults(&found), faults);
 }
@@ -628,6 +791,6 @@ fn a_part_of_another_name_is_no_mention() {
     let document = "\n## other\n`a`\n## crate\n`oam_a(c)`, `silent_d`, `Type::lines`, `c(d)`, a\n## last\n`d`\n";
     let functions = public_functions(MADE_UP);
     let missing = not_named(section(document, "crate"), &functions);
-    assert_eq!(missing, ["a", "silent", "d"]);
+    assert_eq!(missing, ["a", "silent", "d", "named", "told", "mute"]);
     assert_eq!(section(document, "cra"), "");
 }

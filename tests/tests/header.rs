@@ -35,15 +35,17 @@ fn named_in_header(header: &str) -> BTreeMap<&str, u64> {
     named
 }
 
-/// A number in decimal or, behind `0x`, in hexadecimal digits.
+/// A number in decimal or, behind `0x`, in hexadecimal digits, which may be grouped by `_`.
 fn number_in(text: &str) -> Option<u64> {
+    let text = text.replace('_', "");
     match text.strip_prefix("0x") {
         Some(digits) => u64::from_str_radix(digits, 16).ok(),
         None => text.parse().ok(),
     }
 }
 
-/// The constants of a Rattle source, each a sum of numbers and of names: its own, or those of another module as `module::NAME`.
+/// The constants of a Rattle source, each a sum of numbers and of names: its own, or those of another module as `module::NAME` or
+/// `crate::module::NAME`.
 fn constants(source: &str) -> BTreeMap<String, String> {
     let mut constants = BTreeMap::new();
     for line in source.lines() {
@@ -64,7 +66,9 @@ fn number_of(modules: &BTreeMap<String, String>, module: &str, name: &str) -> u6
     let sum = constants(&modules[module])
         .remove(name)
         .unwrap_or_else(|| panic!("no constant {name} in the module `{module}`"));
-    let terms = sum.split('+').map(str::trim);
+    let terms = sum
+        .split('+')
+        .map(|term| term.trim().trim_start_matches("crate::"));
     let values = terms.map(|term| match (number_in(term), term.split_once("::")) {
         (Some(number), _) => number,
         (_, Some((other, name))) => number_of(modules, other, name),
@@ -77,8 +81,8 @@ fn number_of(modules: &BTreeMap<String, String>, module: &str, name: &str) -> u6
 fn modules(name: &str) -> BTreeMap<String, String> {
     let folder = repository().join("crates").join(name).join("src");
     let files = fs::read_dir(&folder).unwrap_or_else(|e| panic!("{}: {e}", folder.display()));
-    let sources = files.map(|file| {
-        let path = file.expect("a folder that can be read").path();
+    let paths = files.map(|file| file.expect("a folder that can be read").path());
+    let sources = paths.filter(|path| path.is_file()).map(|path| {
         let stem = path.file_stem().expect("a file's name").to_string_lossy();
         let module = if stem == "lib" { "".into() } else { stem };
         (module.to_string(), text(&path))
@@ -95,6 +99,9 @@ fn shown_numbers(source: &str) -> Vec<String> {
     let (array, _) = array.split_once("\n    ]").expect("the array's end");
     let numbers = array.lines().map(|line| {
         let line = line.trim().trim_end_matches(',');
+        let widened = line.strip_prefix("u64::from(");
+        let widened = widened.and_then(|line| line.strip_suffix(')'));
+        let line = widened.unwrap_or(line).trim_end_matches(".into()");
         line.trim_end_matches(" as u64").to_string()
     });
     numbers.collect()
