@@ -97,7 +97,7 @@ impl Trial {
         Ok(())
     }
 
-    /// No word on the status: a Rattle program has none to give.
+    /// The status of a run that could not read its input on is 1.
     fn judge_failed(&self, name: &str, expected: &[u8], (ran, said): &(Ran, String)) -> Outcome {
         let when = format!("where standard input {name}");
         as_due(&when, expected, &ran.output)?;
@@ -105,8 +105,8 @@ impl Trial {
             return Err(format!("{when} nothing is said").into());
         }
         match ran.status.code() {
-            Some(_) => Ok(()),
-            None => Err(format!("{when} it ended by {}", ran.status).into()),
+            Some(1) => Ok(()),
+            _ => Err(format!("{when} it ended with {}", ran.status).into()),
         }
     }
 
@@ -212,6 +212,8 @@ mod tests {
         assert!(trial("cat 2> /dev/null").failing(&inputs, copied).is_err());
         assert!(trial("cat; echo end").failing(&inputs, copied).is_err());
         assert!(trial("cat; kill $$").failing(&inputs, copied).is_err());
+        assert!(trial("cat; exit 0").failing(&inputs, copied).is_err());
+        assert!(trial("cat; exit 2").failing(&inputs, copied).is_err());
         let without_header = Trial {
             program: Program::new("cat", &[]),
             ..trial("")
