@@ -6,6 +6,8 @@ for it without a goal, and would be refused for that alone, even where it means 
 edit is checked once more, the function that it changes alone where there is one, over the libraries that `rt ci` left, and what
 is said is read to its end. Such an edit is mended by further pairs of lines that rename in the proof file too.
 
+Three edits that show nothing are tried with them, to see that each is told from a refusal.
+
 With names of crates only their edits are looked at."""
 import os
 import re
@@ -18,6 +20,15 @@ from concurrent.futures import ThreadPoolExecutor
 os.chdir(os.path.dirname(os.path.dirname(os.path.abspath(__file__))))
 KIT = os.path.dirname(subprocess.run(["rt", "doc"], stdout=subprocess.PIPE, text=True, check=True).stdout.strip())
 LANES = len(os.sched_getaffinity(0))
+
+
+# Edits that show nothing, and what is to be said of each: one that only takes a name from an answer, one that changes nothing, and
+# one whose old line stands nowhere.
+EMPTY = (
+    ("text_listing", "a_name_alone", [("src/line.rt", "if from_zero < 10 {", "if from_zero < 11 {")], "refused for a name alone"),
+    ("text_listing", "no_change", [("src/line.rt", "if from_zero < 10 {", "if from_zero < 10 {")], "NOT REFUSED"),
+    ("text_listing", "no_place", [("src/line.rt", "if from_ten < 10 {", "if from_ten < 11 {")], "cannot be applied"),
+)
 
 
 def words_of(crate):
@@ -54,24 +65,27 @@ def check(room, words, only):
 
 
 def why(lines):
-    """Whether what was said shows a fact that fails, and else the first name that a proof file misses."""
+    """The first fact that fails, or the first name that a proof file misses: beside a missing name nothing else counts, since it may
+    follow from that."""
     errors = [it for it in lines if re.match(r"\S+:\d+:\d+: error: ", it) and "that depend" not in it]
     names = [it for it in errors if re.search(r"(^|/)proofs/", it.split(":")[0]) and re.search(r"has no `|has no field|is not in scope", it)]
-    facts = [it for it in errors if it not in names and "exports no `" not in it]
+    if names:
+        return None, names[0]
+    facts = [it for it in errors if "exports no `" not in it]
     facts += [it for it in lines if "allow values at which this goal is false" in it]
-    if not names:
-        facts += [it for it in lines if re.match(r"note: \S+:\d+:\d+: it is not proved", it)]
-    return facts[0] if facts else None, names[0] if names else None
+    facts += [it for it in lines if re.match(r"note: \S+:\d+:\d+: it is not proved", it)]
+    return facts[0] if facts else None, None
 
 
-def tried(crate, edit):
-    label = f"{crate}/{os.path.basename(edit)}"
+def tried(crate, name, changes):
+    """Whether an edit is refused for a fact, and what was said."""
+    label = f"{crate}/{name}"
     with tempfile.TemporaryDirectory() as room:
         for part in ("src", "specs", "proofs"):
             if os.path.isdir(f"crates/{crate}/{part}"):
                 shutil.copytree(f"crates/{crate}/{part}", f"{room}/{part}")
         only = set()
-        for path, old, new in pairs(edit):
+        for path, old, new in changes:
             text = open(f"{room}/{path}", encoding="utf-8").read()
             if text.count(old) != 1:
                 return False, f"{label}: cannot be applied"
@@ -100,14 +114,18 @@ def main(names):
     for crate in sorted(os.listdir("crates")):
         folder = f"crates/{crate}/must-fail"
         if os.path.isdir(folder) and (not names or crate in names):
-            edits += [(crate, f"{folder}/{it}") for it in sorted(os.listdir(folder)) if it.endswith(".edit")]
+            edits += [(crate, it, list(pairs(f"{folder}/{it}"))) for it in sorted(os.listdir(folder)) if it.endswith(".edit")]
     with ThreadPoolExecutor(LANES) as pool:
+        empty = [pool.submit(tried, *it[:3]) for it in EMPTY]
         results = list(pool.map(lambda it: tried(*it), edits))
     for well, text in results:
         print(f"edits: {'' if well else 'NOT WELL: '}{text}")
     well = sum(it for it, _ in results)
     print(f"edits: {well} of {len(results)} are refused for a fact")
-    return 0 if well == len(results) else 1
+    missed = [it.result()[1] for it, (*_, due) in zip(empty, EMPTY) if it.result()[0] or due not in it.result()[1]]
+    for text in missed:
+        print(f"edits: NOT WELL: an edit that shows nothing is not told from others: {text}")
+    return 0 if well == len(results) and not missed else 1
 
 
 sys.exit(main(sys.argv[1:]))
