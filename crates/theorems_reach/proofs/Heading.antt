@@ -1,7 +1,7 @@
 -- Every accepted frame shows its header, with the number of TLVs that were skipped: "The machine's receive answer and the lister
 -- carry the total." The end may be any: with the link down, outside SEND_ANY, and a repeat too.
 use Prim.Native.Nat.{ℕ, ◌≤◌}
-use mathlib.Core.Path.{◌≡◌, refl, subst, sym}
+use mathlib.Core.Path.{◌≡◌, refl}
 use mathlib.Core.List.{List}
 use borrow.Author.Tests.{le-ltb}
 use Rattle.octets.specs.Layout.{shortest_frame}

@@ -1,10 +1,7 @@
-use Prim.Native.Nat.{◌+◌, ◌-◌}
-use borrow.Author.Rules.{rules}
-use borrow.Author.Tests.{ne_eqb}
-use native.Mathlib.Omega.{arith}
-use lib.ListN.{length, get_or}
+use Prim.Native.Nat.{◌-◌}
+use lib.ListN.{length}
 use Rattle.frame_body.specs.declared.ListKind.TheVariants.{Containers}
-use Rattle.frame_body.proofs.Strides.{Strode, value_upto, begun, arrived, containers_end, containers_break, container_stride}
+use Rattle.frame_body.proofs.Strides.{Strode}
 use Rattle.frame_body.proofs.lists.whole_containers.Given as goal
 
 abbrev pub invariant-loop-at : goal.invariant-loop-at

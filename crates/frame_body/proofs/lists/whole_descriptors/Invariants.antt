@@ -1,9 +1,7 @@
 use Prim.Native.Nat.{◌-◌}
-use borrow.Author.Rules.{rules}
-use borrow.Author.Tests.{ne_eqb}
 use lib.ListN.{length}
 use Rattle.frame_body.specs.declared.ListKind.TheVariants.{Descriptors}
-use Rattle.frame_body.proofs.Strides.{Strode, begun, arrived, descriptors_end, descriptor_stride}
+use Rattle.frame_body.proofs.Strides.{Strode}
 use Rattle.frame_body.proofs.lists.whole_descriptors.Given as goal
 
 abbrev pub invariant-loop-at : goal.invariant-loop-at

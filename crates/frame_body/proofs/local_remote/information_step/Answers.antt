@@ -8,7 +8,6 @@ use Rattle.frame_body.specs.Information.{information_step}
 use Rattle.frame_tlvs.specs.declared.Mark.TheVariants.{Known}
 use Rattle.frame_tlvs.specs.declared.Kind.TheVariants.{Information}
 use Rattle.frame_tlvs.proofs.Marks.{Marked, mark_within, information_16}
-use borrow.Author.Rules.{rules}
 use Rattle.frame_body.proofs.local_remote.information_step.Goals as goal
 use Rattle.frame_body.proofs.local_remote.information_step.Goals.{In-Known}
 

@@ -1,43 +1,47 @@
-use Prim.Native.Nat.{◌-◌}
-use mathlib.Core.Path.{sym, subst}
-use borrow.Author.Rules.{rules}
+use Prim.Native.Nat.{ℕ}
+use mathlib.Core.Bool.{Bool}
+use mathlib.Core.List.{List}
+use mathlib.Core.Path.{◌≡◌, sym, subst, ◌∙◌}
 use native.Mathlib.Omega.{arith}
-use lib.ListN.{length}
+use Rattle.frame_tlvs.specs.Tlvs.{mark_at}
+use Rattle.frame_tlvs.specs.declared.Kind.TheVariants.{Information}
+use Rattle.frame_tlvs.specs.declared.Mark.{Mark}
 use Rattle.frame_tlvs.specs.declared.Mark.TheVariants.{Unknown}
 use Rattle.frame_body.proofs.Judging.{Going, Gone, Meets, one_turn, start}
 use Rattle.frame_body.proofs.local_remote.judged_information.Goals as goal
-use Rattle.frame_body.proofs.local_remote.judged_information.Goals.{After-mark_at, In-Known, In-Unknown}
+use Rattle.frame_body.proofs.local_remote.judged_information.Goals.{In-Known, In-Unknown}
 
--- what the turn comes to
-come : (c : After-mark_at)
-    → Gone c.args.body.now c.loop-next.at c.loop-next.local c.loop-next.remote c.loop-next.skipped c.mark_at.result
-come c =
-    let s = c.args.body.now in
-    let l = c.loop-next in
-    subst (Gone s l.at l.local l.remote l.skipped) (sym c.mark_at.ensures) (one_turn s l.at l.local l.remote l.skipped l.invariant)
+-- what a turn comes to, by the mark that it met
+comes : (s : List ℕ) (at place : ℕ) (r : Bool) (skipped : ℕ) (m : Mark)
+    → Going s at place r skipped → mark_at Information s at ≡ m → Gone s at place r skipped m
+comes s at place r skipped m going met = subst (Gone s at place r skipped) met (one_turn s at place r skipped going)
 
 -- in the arm of an unknown TLV
 skips : (c : In-Unknown)
     → Gone c.args.body.now c.loop-next.at c.loop-next.local c.loop-next.remote c.loop-next.skipped (Unknown c.in-Unknown.next)
 skips c =
     let l = c.loop-next in
-    subst (Gone _ l.at l.local l.remote l.skipped) c.in-Unknown.is (let come : Gone c.args.body.now c.loop-next.at c.loop-next.local c.loop-next.remote c.loop-next.skipped c.mark_at.result = (let s = c.args.body.now in let l = c.loop-next in subst (Gone s l.at l.local l.remote l.skipped) (sym c.mark_at.ensures) (one_turn s l.at l.local l.remote l.skipped l.invariant)) in come)
+    comes _ l.at l.local l.remote l.skipped _ l.invariant (sym c.mark_at.ensures ∙ c.in-Unknown.is)
 
 -- in the arm of a known TLV
 meets : (c : In-Known)
     → Meets c.args.body.now c.loop-next.at c.loop-next.local c.loop-next.remote c.loop-next.skipped c.in-Known.t c.in-Known.next
 meets c =
     let l = c.loop-next in
-    subst (Gone _ l.at l.local l.remote l.skipped) c.in-Known.is (let come : Gone c.args.body.now c.loop-next.at c.loop-next.local c.loop-next.remote c.loop-next.skipped c.mark_at.result = (let s = c.args.body.now in let l = c.loop-next in subst (Gone s l.at l.local l.remote l.skipped) (sym c.mark_at.ensures) (one_turn s l.at l.local l.remote l.skipped l.invariant)) in come)
+    comes _ l.at l.local l.remote l.skipped _ l.invariant (sym c.mark_at.ensures ∙ c.in-Known.is)
 
 pub loop-next-init : goal.loop-next-init
 loop-next-init c = start c.args.body.now
 
 pub returns-in-End : goal.returns-in-End
-returns-in-End c = let l = c.loop-next in subst (Gone _ l.at l.local l.remote l.skipped) c.in-End.is (come (goal.at.returns-in-End c).After-mark_at)
+returns-in-End c =
+    let l = c.loop-next in
+    comes _ l.at l.local l.remote l.skipped _ l.invariant (sym c.mark_at.ensures ∙ c.in-End.is)
 
 pub returns-in-Broken : goal.returns-in-Broken
-returns-in-Broken c = let l = c.loop-next in subst (Gone _ l.at l.local l.remote l.skipped) c.in-Broken.is (come (goal.at.returns-in-Broken c).After-mark_at)
+returns-in-Broken c =
+    let l = c.loop-next in
+    comes _ l.at l.local l.remote l.skipped _ l.invariant (sym c.mark_at.ensures ∙ c.in-Broken.is)
 
 pub overflow_add-skipped : goal.overflow_add-skipped
 overflow_add-skipped c = let g = skips c in omega (arith, g.0, g.1, g.2.few)

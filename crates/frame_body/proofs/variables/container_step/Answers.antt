@@ -6,7 +6,6 @@ use Rattle.octets.proofs.Numbers.{num_three}
 use Rattle.frame_body.specs.Variables.{container_from, container_step}
 use Rattle.frame_body.proofs.Wholes.{container_end}
 use Rattle.frame_body.proofs.Strides.{no_branch, cut_container, full_container}
-use borrow.Author.Rules.{rules}
 use Rattle.frame_body.proofs.variables.container_step.Goals as goal
 use Rattle.frame_body.proofs.variables.container_step.Goals.{After-join_three-descriptor}
 

@@ -5,7 +5,6 @@ use lib.ListN.{length}
 use Rattle.frame_body.specs.Variables.{container_step, container_value}
 use Rattle.frame_body.specs.declared.ContainerStep.TheVariants.{Value}
 use Rattle.frame_body.proofs.Wholes.{Contained, container_within}
-use borrow.Author.Rules.{rules}
 use Rattle.frame_body.proofs.variables.container_value.Goals as goal
 use Rattle.frame_body.proofs.variables.container_value.Goals.{In-Value}
 

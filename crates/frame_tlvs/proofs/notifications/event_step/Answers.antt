@@ -6,7 +6,6 @@ use Rattle.frame_tlvs.specs.Events.{event_step}
 use Rattle.frame_tlvs.specs.declared.Mark.TheVariants.{Known}
 use Rattle.frame_tlvs.specs.declared.Kind.TheVariants.{Events}
 use Rattle.frame_tlvs.proofs.Marks.{Marked, mark_within, event_tabled}
-use borrow.Author.Rules.{rules}
 use Rattle.frame_tlvs.proofs.notifications.event_step.Goals as goal
 use Rattle.frame_tlvs.proofs.notifications.event_step.Goals.{In-Known}
 

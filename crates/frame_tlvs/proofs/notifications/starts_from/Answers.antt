@@ -1,9 +1,6 @@
 use mathlib.Core.Path.{sym, ap}
-use native.Mathlib.Omega.{arith}
-use Rattle.octets.specs.Octets.{total}
 use Rattle.frame_tlvs.specs.Events.{starts_from}
 use Rattle.frame_tlvs.proofs.Rows.{six_cells}
-use borrow.Author.Rules.{rules}
 use Rattle.frame_tlvs.proofs.notifications.starts_from.Goals as goal
 
 pub returns : goal.returns

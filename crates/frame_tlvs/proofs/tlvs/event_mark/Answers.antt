@@ -3,7 +3,6 @@ use native.Mathlib.Omega.{arith}
 use Rattle.frame_tlvs.specs.Tlvs.{unknown_mark}
 use Rattle.frame_tlvs.specs.declared.Kind.TheVariants.{Events}
 use Rattle.frame_tlvs.proofs.Marks.{unknown_mark_lem, event_sized, event_known, event_unknown}
-use borrow.Author.Rules.{rules}
 use Rattle.frame_tlvs.proofs.tlvs.event_mark.Goals as goal
 
 pub known_mark-requires : goal.known_mark-requires

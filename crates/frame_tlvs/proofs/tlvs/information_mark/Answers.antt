@@ -5,7 +5,6 @@ use lib.ListN.{get_or}
 use Rattle.frame_tlvs.specs.Tlvs.{known, unknown_mark}
 use Rattle.frame_tlvs.specs.declared.Kind.TheVariants.{Information}
 use Rattle.frame_tlvs.proofs.Marks.{known_mark_lem, unknown_mark_lem}
-use borrow.Author.Rules.{rules}
 use Rattle.frame_tlvs.proofs.tlvs.information_mark.Goals as goal
 
 pub returns-in-1 : goal.returns-in-1

@@ -1,6 +1,5 @@
 use mathlib.Core.Path.{sym}
 use Rattle.frame_tlvs.proofs.Marks.{mark_end}
-use borrow.Author.Rules.{rules}
 use Rattle.frame_tlvs.proofs.tlvs.mark_at.Goals as goal
 
 pub returns-then-body-at : goal.returns-then-body-at

@@ -1,11 +1,7 @@
-use Prim.Native.Nat.{◌+◌, ◌-◌, ◌≤◌}
-use mathlib.Core.Path.{◌≡◌}
 use native.Mathlib.Numerals.{add-one}
 use native.Mathlib.Omega.{arith}
-use borrow.Author.Rules.{rules}
-use lib.ListN.{length, get_or, drop, drop_of_length-le}
+use lib.ListN.{get_or}
 use lib.Seq.{drop-cons}
-use Rattle.frame_variables.specs.Answers.{measured_answers}
 use Rattle.frame_variables.proofs.Answering.{answer_within}
 use Rattle.frame_variables.proofs.answers.measured_answers.Goals as goal
 

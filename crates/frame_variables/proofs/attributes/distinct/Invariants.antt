@@ -1,12 +1,7 @@
-use Prim.Native.Nat.{ℕ, ◌-◌, ◌*◌}
-use mathlib.Core.Path.{◌≡◌, refl, sym, ◌∙◌}
-use mathlib.Core.List.{List}
-use mathlib.Core.Bool.{true}
-use native.Mathlib.Omega.{arith}
-use borrow.Author.Rules.{rules}
+use Prim.Native.Nat.{◌-◌, ◌*◌}
+use mathlib.Core.Path.{◌≡◌}
 use lib.ListN.{drop}
 use Rattle.frame_variables.specs.Attributes.{distinct}
-use Rattle.frame_variables.proofs.Pairs.{pair_at, after_last}
 use Rattle.frame_variables.proofs.attributes.distinct.Given as goal
 
 abbrev pub invariant-loop-i : goal.invariant-loop-i

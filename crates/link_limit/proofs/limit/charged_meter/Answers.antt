@@ -1,4 +1,4 @@
-use Rattle.std.proofs.Common.{sym, ◌∙◌, arith, rules, ltb-true}
+use Rattle.std.proofs.Common.{sym, ◌∙◌, arith, ltb-true}
 use Rattle.link_limit.specs.Limit.{most_frames, stretch_intervals, written_frames, has_room, charged_meter}
 use Rattle.link_limit.proofs.Newest.{newest_step}
 use Rattle.link_limit.proofs.limit.charged_meter.Goals as goal

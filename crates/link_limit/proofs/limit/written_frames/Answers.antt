@@ -1,4 +1,4 @@
-use Rattle.std.proofs.Common.{◌≡◌, ◌+◌, ◌-◌, ◌*◌, ◌≤◌, ◌∙◌, arith, rules}
+use Rattle.std.proofs.Common.{◌≡◌, ◌+◌, ◌-◌, ◌∙◌, arith}
 use Rattle.link_limit.specs.Limit.{stretch_intervals, frames_of_newest, written_frames}
 use Rattle.link_limit.proofs.Newest.{newest_none, newest_step}
 use Rattle.link_limit.proofs.limit.written_frames.Goals as goal

@@ -1,6 +1,5 @@
-use Rattle.std.proofs.Common.{◌≡◌, ◌+◌, ◌-◌, ◌*◌, ◌≤◌, ◌∙◌, arith, rules}
-use Rattle.link_limit.specs.Limit.{stretch_intervals, frames_of_newest, written_frames}
-use Rattle.link_limit.proofs.Newest.{newest_none, newest_step}
+use Rattle.std.proofs.Common.{◌≡◌, ◌+◌, ◌-◌, ◌*◌, ◌≤◌}
+use Rattle.link_limit.specs.Limit.{stretch_intervals, frames_of_newest}
 use Rattle.link_limit.proofs.limit.written_frames.Given as goal
 
 abbrev pub invariant-loop-i : goal.invariant-loop-i

@@ -1,6 +1,6 @@
 use native.Mathlib.Omega.{arith}
 use mathlib.Core.Path.{sym, ◌∙◌}
-use Rattle.octets.proofs.Stores.{next_fit, fit_end}
+use Rattle.octets.proofs.Stores.{fit_end}
 use Rattle.octets.proofs.fitting.all_fit.Goals as goal
 
 pub returns : goal.returns

@@ -1,8 +1,7 @@
 use Prim.Native.Nat.{◌^◌}
-use mathlib.Core.Path.{sym, ap}
+use mathlib.Core.Path.{sym}
 use native.Mathlib.Omega.{arith}
 use borrow.Author.Tests.{lt-ltb}
-use lib.Dec.{ltb}
 use Rattle.octets.proofs.Numbers.{pow_upto}
 use Rattle.octets.proofs.fitting.fits.Goals as goal
 

@@ -1,11 +1,6 @@
-use Prim.Native.Nat.{◌+◌, ◌-◌, ◌≤◌, min}
-use mathlib.Core.Path.{◌≡◌, sym, ◌∙◌}
-use native.Mathlib.Nat.{add-zero}
+use mathlib.Core.Path.{sym, ◌∙◌}
 use native.Mathlib.Omega.{arith}
-use borrow.Author.Rules.{rules}
-use lib.ListN.{length, drop}
-use lib.Seq.{sets}
-use Rattle.octets.proofs.Stores.{none_past, stored_all, sets_next}
+use Rattle.octets.proofs.Stores.{none_past, stored_all}
 use Rattle.octets.proofs.storing.put_octets.Goals as goal
 
 pub returns-then-out-at : goal.returns-then-out-at

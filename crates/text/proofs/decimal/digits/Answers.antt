@@ -2,7 +2,7 @@ use Prim.Native.Nat.{ℕ, zero, suc, ◌+◌, ◌/◌, ◌^◌, ◌≤◌, ◌<�
 use mathlib.Core.Path.{◌≡◌, refl, ap}
 use native.Mathlib.Omega.{arith}
 use lib.ListN.{length}
-use Rattle.text.specs.Decimal.{decimal_in, decimal}
+use Rattle.text.specs.Decimal.{decimal_in}
 use Rattle.text.proofs.Decimals.{one_digit, one_more, tenth}
 use Rattle.text.proofs.decimal.digits.Goals as goal
 

@@ -1,9 +1,7 @@
-use Prim.Native.Nat.{ℕ, zero, suc, ◌+◌, ◌/◌, ◌^◌, ◌≤◌, ◌<◌}
-use mathlib.Core.Path.{◌≡◌, refl, ap}
-use native.Mathlib.Omega.{arith}
+use Prim.Native.Nat.{ℕ, suc, ◌+◌, ◌^◌, ◌<◌}
+use mathlib.Core.Path.{◌≡◌}
 use lib.ListN.{length}
 use Rattle.text.specs.Decimal.{decimal_in, decimal}
-use Rattle.text.proofs.Decimals.{one_digit, one_more, tenth}
 use Rattle.text.proofs.decimal.digits.Given as goal
 
 -- So many digits in all, so many counted, and the rest: the rest's last digit is counted already, so that they are one more

@@ -4,9 +4,8 @@ use native.Mathlib.Omega.{arith}
 use lib.ListN.{length}
 use Rattle.text.specs.Decimal.{decimal}
 use Rattle.text.proofs.Decimals.{length-field}
-use Rattle.text.proofs.Puts.{stored, refused}
+use Rattle.text.proofs.Puts.{stored}
 use Rattle.octets.proofs.Stores.{sets-append}
-use borrow.Author.Rules.{rules}
 use Rattle.text.proofs.decimal.put_decimal.Goals as goal
 
 pub returns : goal.returns

@@ -1,13 +1,12 @@
-use Prim.Native.Nat.{ℕ, ◌+◌, ◌/◌, ◌%◌, ◌-◌, ◌≤◌, ◌<◌}
-use mathlib.Core.Path.{◌≡◌, sym, ap, ◌∙◌}
+use Prim.Native.Nat.{ℕ, ◌+◌, ◌/◌, ◌%◌, ◌-◌, ◌<◌}
+use mathlib.Core.Path.{◌≡◌, ap, ◌∙◌}
 use native.Mathlib.Omega.{arith}
-use borrow.Author.Rules.{rules}
 use mathlib.Core.List.{List, [], ◌∷◌}
 use lib.ListN.{length, set, length-set, length-append}
 use lib.Seq.{sets}
-use Rattle.text.specs.Decimal.{decimal_in, decimal}
+use Rattle.text.specs.Decimal.{decimal_in}
 use Rattle.text.proofs.Decimals.{last_digit}
-use Rattle.octets.proofs.Stores.{sets_last, empty}
+use Rattle.octets.proofs.Stores.{sets_last}
 use Rattle.text.proofs.decimal.store.Goals as goal
 
 -- the whole is what storing the rest's digits gives, and so many they are
