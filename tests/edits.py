@@ -1,14 +1,14 @@
 #!/usr/bin/env python3
-"""Sees that each must-fail edit is refused for a fact, after `rt ci`, which says only that each is refused.
+"""Sees that each must-fail edit is refused for a fact, after `rt ci`, which says only that each is refused, or after `rt check`.
 
 A goal's name is made of the code (`returns-then-n-lt-MOST`). An edit that changes such a name leaves the answer that a proof file has
 for it without a goal, and would be refused for that alone, even where it means the same as before: then nothing was tried. Here each
-edit is checked once more, the function that it changes alone where there is one, over the libraries that `rt ci` left, and what
-is said is read to its end. Such an edit is mended by further pairs of lines that rename in the proof file too.
+edit is checked once more, the function that it changes alone where there is one, over the libraries that either left, and what is
+said is read to its end. Such an edit is mended by further pairs of lines that rename in the proof file too.
 
 Three edits that show nothing are tried with them, to see that each is told from a refusal.
 
-With names of crates only their edits are looked at."""
+With names of crates only theirs are looked at."""
 import os
 import re
 import shutil
@@ -116,13 +116,13 @@ def main(names):
         if os.path.isdir(folder) and (not names or crate in names):
             edits += [(crate, it, list(pairs(f"{folder}/{it}"))) for it in sorted(os.listdir(folder)) if it.endswith(".edit")]
     with ThreadPoolExecutor(LANES) as pool:
-        empty = [pool.submit(tried, *it[:3]) for it in EMPTY]
+        empty = [(pool.submit(tried, *it[:3]), it[3]) for it in EMPTY if not names or it[0] in names]
         results = list(pool.map(lambda it: tried(*it), edits))
     for well, text in results:
         print(f"edits: {'' if well else 'NOT WELL: '}{text}")
     well = sum(it for it, _ in results)
     print(f"edits: {well} of {len(results)} are refused for a fact")
-    missed = [it.result()[1] for it, (*_, due) in zip(empty, EMPTY) if it.result()[0] or due not in it.result()[1]]
+    missed = [it.result()[1] for it, due in empty if it.result()[0] or due not in it.result()[1]]
     for text in missed:
         print(f"edits: NOT WELL: an edit that shows nothing is not told from others: {text}")
     return 0 if well == len(results) and not missed else 1
