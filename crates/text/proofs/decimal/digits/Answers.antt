@@ -4,12 +4,8 @@ use native.Mathlib.Omega.{arith}
 use lib.ListN.{length}
 use Rattle.text.specs.Decimal.{decimal_in}
 use Rattle.text.proofs.Decimals.{one_digit, one_more, tenth}
+use Rattle.text.proofs.decimal.digits.Invariants.{Counted}
 use Rattle.text.proofs.decimal.digits.Goals as goal
-
--- So many digits in all, so many counted, and the rest: the rest's last digit is counted already, so that they are one more
--- than all together, and the rest fits into the places that are left of twenty.
-abbrev Counted : ℕ → ℕ → ℕ → Type 0
-Counted all count rest = (places : ℕ) × (count + places ≡ 20) × (rest < 10 ^ suc places) × (all + 1 ≡ count + length (decimal_in (suc places) rest))
 
 one_counted : (all count rest : ℕ) → 10 ≤ rest → Counted all count rest → Counted all (count + 1) (rest / 10)
 one_counted all count rest more (places, sum, within, e) = go places sum within e

@@ -6,7 +6,7 @@ use Rattle.text.proofs.decimal.digits.Given as goal
 
 -- So many digits in all, so many counted, and the rest: the rest's last digit is counted already, so that they are one more
 -- than all together, and the rest fits into the places that are left of twenty.
-abbrev Counted : ℕ → ℕ → ℕ → Type 0
+abbrev pub Counted : ℕ → ℕ → ℕ → Type 0
 Counted all count rest = (places : ℕ) × (count + places ≡ 20) × (rest < 10 ^ suc places) × (all + 1 ≡ count + length (decimal_in (suc places) rest))
 
 abbrev pub invariant-loop-rest : goal.invariant-loop-rest

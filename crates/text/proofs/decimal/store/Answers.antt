@@ -7,11 +7,8 @@ use lib.Seq.{sets}
 use Rattle.text.specs.Decimal.{decimal_in}
 use Rattle.text.proofs.Decimals.{last_digit}
 use Rattle.octets.proofs.Stores.{sets_last}
+use Rattle.text.proofs.decimal.store.Invariants.{Left}
 use Rattle.text.proofs.decimal.store.Goals as goal
-
--- the whole is what storing the rest's digits gives, and so many they are
-abbrev Left : List ℕ → List ℕ → ℕ → ℕ → ℕ → Type 0
-Left whole out at left rest = (places : ℕ) × (left ≡ length (decimal_in places rest)) × (whole ≡ sets out at (decimal_in places rest))
 
 one_stored : (whole out : List ℕ) (at left rest : ℕ) → 0 < left → Left whole out at left rest
     → Left whole (set out (at + (left - 1)) (48 + rest % 10)) at (left - 1) (rest / 10)

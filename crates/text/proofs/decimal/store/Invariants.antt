@@ -7,7 +7,7 @@ use Rattle.text.specs.Decimal.{decimal_in, decimal}
 use Rattle.text.proofs.decimal.store.Given as goal
 
 -- the whole is what storing the rest's digits gives, and so many they are
-abbrev Left : List ℕ → List ℕ → ℕ → ℕ → ℕ → Type 0
+abbrev pub Left : List ℕ → List ℕ → ℕ → ℕ → ℕ → Type 0
 Left whole out at left rest = (places : ℕ) × (left ≡ length (decimal_in places rest)) × (whole ≡ sets out at (decimal_in places rest))
 
 abbrev pub invariant-loop-left : goal.invariant-loop-left
