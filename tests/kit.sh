@@ -1,5 +1,5 @@
-# For the scripts that ask the prover what `rt` has no word for (tests/archive.sh, tests/definitions.sh): where the kit is, what
-# crates.txt says of a crate, and the words that name a crate to `rattle`. To be read in bash, at the top of a copy of the repository.
+# For the scripts here that ask the prover what `rt` has no word for: where the kit is, what crates.txt says of a crate, and the
+# words that name a crate to `rattle`. To be read in bash, at the top of a copy of the repository.
 kit=$(dirname "$(rt doc)")
 
 # What a crate stands on, as its line of crates.txt has it: libraries of the repository and of the kit.

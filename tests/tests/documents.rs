@@ -10,13 +10,13 @@ use std::collections::BTreeSet;
 use std::fs;
 use std::path::{Path, PathBuf};
 
-/// The files below a folder with an extension, but for what the prover leaves in a crate's `out`.
+/// The files below a folder with an extension, but for what the prover leaves in the `out` of a crate.
 fn files(folder: &Path, extension: &str) -> Vec<PathBuf> {
     let mut found = Vec::new();
     for entry in fs::read_dir(folder).expect("a folder can be listed") {
         let path = entry.expect("an entry can be read").path();
         if path.is_dir() {
-            if path.file_name().is_some_and(|name| name != "out") {
+            if !(path.ends_with("out") && folder.join("src").is_dir()) {
                 found.extend(files(&path, extension));
             }
         } else if path.extension().is_some_and(|e| e == extension) {
@@ -454,7 +454,7 @@ fn an_edit_that_must_be_refused_keeps_the_shape_of_the_code() {
         assert_eq!(wrong, Vec::<&str>::new(), "{}", edit.display());
         edits += 1;
     }
-    assert!(edits >= 76, "only {edits} edits were found");
+    assert!(edits >= 80, "only {edits} edits were found");
     let one = "file: src/a.rt\nold: if n < octets::MOST {\nnew: if n < 59 {\n";
     assert_eq!(misshapen(one), Vec::<&str>::new());
     let other = "file: src/a.rt\nold: if n < most {\nnew: if n < most - 2 {\n";

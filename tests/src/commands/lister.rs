@@ -44,6 +44,7 @@ pub fn run(arguments: &Arguments) -> Outcome {
     trial.each("tiny inputs", named)?;
     live(&trial)?;
     failing(&trial)?;
+    trial.unwritable()?;
     println!("no difference");
     Ok(())
 }

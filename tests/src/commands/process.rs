@@ -164,7 +164,7 @@ impl Program {
     /// Runs the program on a path that can be opened and not be read. Gives also what
     /// it said on standard error.
     pub fn run_on_unreadable(&self, path: &Path) -> Result<(Ran, String), Box<dyn Error>> {
-        self.run_heard(File::open(path)?.into())
+        self.run_heard(File::open(path)?.into(), Stdio::piped())
     }
 
     /// The same on an input that gives these octets and then an error. A program that
@@ -181,12 +181,18 @@ impl Program {
             thread::sleep(patience);
             drop(own);
         });
-        self.run_heard(OwnedFd::from(input).into())
+        self.run_heard(OwnedFd::from(input).into(), Stdio::piped())
+    }
+
+    /// The same on no input, with an output on a path that can be opened and takes nothing.
+    pub fn run_unwritable(&self, path: &Path) -> Result<(Ran, String), Box<dyn Error>> {
+        let output = File::options().write(true).open(path)?;
+        self.run_heard(Stdio::null(), output.into())
     }
 
     /// Runs the program to its end. Its output is short.
-    fn run_heard(&self, input: Stdio) -> Result<(Ran, String), Box<dyn Error>> {
-        let mut command = self.command(input, Stdio::piped());
+    fn run_heard(&self, input: Stdio, output: Stdio) -> Result<(Ran, String), Box<dyn Error>> {
+        let mut command = self.command(input, output);
         let child = command.stderr(Stdio::piped()).spawn();
         let ended = child.map_err(|error| self.not_run(error))?;
         let ended = ended.wait_with_output()?;

@@ -17,6 +17,8 @@ const SHOWN: usize = 5;
 const PATIENCE: Duration = Duration::from_secs(20);
 /// Can be opened, and not be read.
 const DIRECTORY: &str = "/";
+/// Can be opened, and takes no octet.
+const FULL: &str = "/dev/full";
 
 /// A program under trial, what it is to list, and the seed to repeat it.
 pub struct Trial {
@@ -97,17 +99,20 @@ impl Trial {
         Ok(())
     }
 
-    /// The status of a run that could not read its input on is 1.
-    fn judge_failed(&self, name: &str, expected: &[u8], (ran, said): &(Ran, String)) -> Outcome {
+    /// Where writing fails the program says so, too.
+    pub fn unwritable(&self) -> Outcome {
+        told(
+            "where standard output is full",
+            &self.program.run_unwritable(Path::new(FULL))?,
+        )?;
+        println!("tells that an output cannot be written");
+        Ok(())
+    }
+
+    fn judge_failed(&self, name: &str, expected: &[u8], heard: &(Ran, String)) -> Outcome {
         let when = format!("where standard input {name}");
-        as_due(&when, expected, &ran.output)?;
-        if said.is_empty() {
-            return Err(format!("{when} nothing is said").into());
-        }
-        match ran.status.code() {
-            Some(1) => Ok(()),
-            _ => Err(format!("{when} it ended with {}", ran.status).into()),
-        }
+        as_due(&when, expected, &heard.0.output)?;
+        told(&when, heard)
     }
 
     pub fn judge(&self, feeding: &str, input: &[u8], ran: &Ran) -> Outcome {
@@ -148,6 +153,17 @@ impl Trial {
             shown(difference.expected),
             shown(difference.found)
         )
+    }
+}
+
+/// Fails where a run that failed says nothing, or ends with a status other than 1.
+fn told(when: &str, (ran, said): &(Ran, String)) -> Outcome {
+    if said.is_empty() {
+        return Err(format!("{when} nothing is said").into());
+    }
+    match ran.status.code() {
+        Some(1) => Ok(()),
+        _ => Err(format!("{when} it ended with {}", ran.status).into()),
     }
 }
 
@@ -219,6 +235,17 @@ mod tests {
             ..trial("")
         };
         assert!(without_header.failing(&inputs, copied).is_err());
+    }
+
+    #[test]
+    fn where_writing_fails_something_is_said() {
+        assert!(trial("exit 1").unwritable().is_ok());
+        assert!(trial("exit 0").unwritable().is_err());
+        let silent = Trial {
+            program: Program::new("false", &[]),
+            ..trial("")
+        };
+        assert!(silent.unwritable().is_err());
     }
 
     #[test]

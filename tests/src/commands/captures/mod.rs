@@ -48,6 +48,7 @@ pub fn run(arguments: &Arguments) -> Outcome {
     memory::long_records(&trial.program)?;
     live(&trial, &few, &mut random)?;
     failing(&trial, &few, &mut random)?;
+    trial.unwritable()?;
     println!("no difference");
     Ok(())
 }
