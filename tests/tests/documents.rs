@@ -153,7 +153,7 @@ fn implementor(head: &str) -> &str {
     found.next().unwrap_or("Self")
 }
 
-/// A code text in which `Self` in an `impl` is the name of its type.
+/// A code text in which `Self` in an `impl`, and `self` where it is lent to be written to, is the name of its type.
 fn self_named(code: &str) -> String {
     let mut named = String::new();
     let mut rest = code;
@@ -165,7 +165,8 @@ fn self_named(code: &str) -> String {
         let end = rest.len() - behind_bracket(&rest[open..]).len();
         named.push_str(&rest[..open]);
         let block: Vec<&str> = rest[open..end].split("Self").collect();
-        named.push_str(&block.join(own));
+        let block = block.join(own);
+        named.push_str(&block.replace("mut self", &format!("mut {own}")));
         rest = &rest[end..];
     }
     named + rest
@@ -252,6 +253,10 @@ fn public_at(text: &str) -> Public {
     loop {
         // A ghost clause ends with a semicolon of its own, and so does each clause of a trait's function.
         rest = rest.trim_start().trim_start_matches(';');
+        // A law of a trait may be all that stands behind its last function.
+        if rest.trim_start().starts_with('}') {
+            break;
+        }
         let brace = body_or_end(rest);
         let clause = clause_at_end(&rest[..brace]).filter(|_| rest[brace..].starts_with('{'));
         let before = clause.map_or(&rest[..brace], |(_, before)| before);
@@ -423,11 +428,16 @@ fn shape(line: &str) -> String {
         }
         named = in_name(c);
     }
+    // one variant more in a pattern is as one name
+    let in_pattern = line.contains("=>") || line.contains("matches!(");
+    while in_pattern && shape.contains("n | n") {
+        shape = shape.replace("n | n", "n");
+    }
     shape
 }
 
-/// The lines of an edit of a source that differ in more than names and numbers. (What the same edit renames in a proof is not
-/// looked at.)
+/// The lines of an edit of a source that differ in more than names and numbers, and are not the old line with a call put before
+/// it. (What the same edit renames in a proof is not looked at.)
 fn misshapen(edit: &str) -> Vec<&str> {
     let mut of_source = false;
     let (mut old, mut new) = (Vec::new(), Vec::new());
@@ -441,7 +451,11 @@ fn misshapen(edit: &str) -> Vec<&str> {
     }
     assert_eq!(old.len(), new.len(), "an edit has as many new lines as old");
     let pairs = old.into_iter().zip(new);
-    let changed = pairs.filter(|(old, new)| shape(old) != shape(new));
+    let stays = |(old, new): &(&str, &str)| {
+        let before = new.trim().strip_suffix(old.trim());
+        shape(old) == shape(new) || before.is_some_and(|call| call.trim_end().ends_with(';'))
+    };
+    let changed = pairs.filter(|pair| !stays(pair));
     changed.map(|(_, new)| new).collect()
 }
 
@@ -459,6 +473,14 @@ fn an_edit_that_must_be_refused_keeps_the_shape_of_the_code() {
     assert_eq!(misshapen(one), Vec::<&str>::new());
     let other = "file: src/a.rt\nold: if n < most {\nnew: if n < most - 2 {\n";
     assert_eq!(misshapen(other), ["if n < most - 2 {"]);
+    let variant = "file: src/a.rt\nold: A::B => n,\nnew: A::B | A::C => n,\n";
+    assert_eq!(misshapen(variant), Vec::<&str>::new());
+    let operand = "file: src/a.rt\nold: let n = a | b;\nnew: let n = a;\n";
+    assert_eq!(misshapen(operand), ["let n = a;"]);
+    let before = "file: src/a.rt\nold: let n = f(m)?;\nnew: m.g(n); let n = f(m)?;\n";
+    assert_eq!(misshapen(before), Vec::<&str>::new());
+    let part = "file: src/a.rt\nold: f(m)?;\nnew: let n = f(m)?;\n";
+    assert_eq!(misshapen(part), ["let n = f(m)?;"]);
     let with_proof =
         format!("{one}file: proofs/a/f/Answers.antt\nold: n-lt-MOST : x\nnew: n-lt-59 y\n");
     assert_eq!(misshapen(&with_proof), Vec::<&str>::new());
@@ -532,11 +554,22 @@ fn holding_an_end(code: &str) -> BTreeSet<&str> {
     }
 }
 
-/// The public functions of a source text whose result is or holds an end.
+/// What the parameters of a function lend it to write to.
+fn lent_to_write(parameters: &str) -> impl Iterator<Item = &str> {
+    parameters.split('&').skip(1).filter_map(|lent| {
+        let lent = lent.trim_start();
+        let named = lent.starts_with('\'').then(|| lent.split_once(' '));
+        let lent = named.flatten().map_or(lent, |(_, rest)| rest);
+        lent.strip_prefix("mut ")
+    })
+}
+
+/// The public functions of a source text that give an end: their result is or holds one, or they are lent one to step.
 fn giving_an_end(written: &str) -> Vec<Public> {
     let code = code(written);
     let holding = holding_an_end(&code);
-    let gives = |f: &Public| words(&f.result).any(|word| holding.contains(word));
+    let holds = |text: &str| words(text).any(|word| holding.contains(word));
+    let gives = |f: &Public| holds(&f.result) || lent_to_write(&f.parameters).any(holds);
     public_functions(written)
         .into_iter()
         .filter(gives)
@@ -605,6 +638,10 @@ impl End {
     }
     pub fn e(self) -> u8 {
     }
+    pub fn h(&mut self) -> u8 {
+    }
+    pub fn i(&self, n: &mut u8) {
+    }
 }
 impl From<End> for Pair {
     pub fn f(end: End) -> Self {
@@ -612,13 +649,17 @@ impl From<End> for Pair {
 }
 pub fn g(e: End) -> Result<End, Mark> {
 }
+pub fn j(n: u8, ends: &'a mut [Pair]) {
+}
+pub fn k(n: &mut u8, e: &End) {
+}
 ";
     let functions = giving_an_end(source);
     let names: Vec<&str> = functions.iter().map(|f| f.name.as_str()).collect();
-    assert_eq!(names, ["a", "c", "d", "f", "g"]);
+    assert_eq!(names, ["a", "c", "d", "h", "f", "g", "j"]);
     let document = "\n## end\nFirst `a`.\n\nSo says `c(n)`,\nnot `a_not`.\n\nThen `a`.\n";
     let told = paragraph(section(document, "end"), "So says");
-    assert_eq!(not_named(told, &functions), ["a", "d", "f", "g"]);
+    assert_eq!(not_named(told, &functions), ["a", "d", "h", "f", "g", "j"]);
     assert_eq!(paragraph(document, "None"), "");
 }
 
@@ -689,7 +730,7 @@ fn a_frame_is_written_straight_to_the_output() {
 #[test]
 fn a_frame_that_is_written_elsewhere_is_seen() {
     let source = "\
-pub fn a(out: &mut [u8], n: u8) -> Written {
+pub fn a(out: &mut [u8], n: u8) -> Result<usize, Refusal> {
     let mut frame: [u8; 60] = [0u8; 60];
     let other = [0; 60]; // [u8; 9]
     let widths: [usize; 2] = [6, 6];

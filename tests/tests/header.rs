@@ -90,11 +90,11 @@ fn modules(name: &str) -> BTreeMap<String, String> {
     sources.collect()
 }
 
-/// The numbers that an end is shown as, in the order of the array that `join_numbers` makes.
+/// The numbers that an end is shown as, in the order of the array that `numbers_of` makes.
 fn shown_numbers(source: &str) -> Vec<String> {
     let (_, body) = source
-        .split_once("fn join_numbers(")
-        .expect("the function that joins an end's numbers");
+        .split_once("fn numbers_of(")
+        .expect("the function that gives an end's numbers");
     let (_, array) = body.split_once("    [\n").expect("its array");
     let (array, _) = array.split_once("\n    ]").expect("the array's end");
     let numbers = array.lines().map(|line| {
@@ -115,24 +115,21 @@ const PLACES: [(&str, &str); 21] = [
     ("OAM_NUMBER_VENDOR", "settings.vendor"),
     ("OAM_NUMBER_SOURCE", "settings.source"),
     ("OAM_NUMBER_REQUIRED", "settings.required"),
-    ("OAM_NUMBER_LINK_UP", "bit_of(link.up)"),
+    ("OAM_NUMBER_LINK_UP", "link.up"),
     ("OAM_NUMBER_LOST_LINK_COUNT", "link.lost"),
     ("OAM_NUMBER_KEPT_FIELD", "peer.kept"),
-    ("OAM_NUMBER_RECORD_HELD", "bit_of(link_peer::is_held(held))"),
-    ("OAM_NUMBER_RECORD", "i.version"),
-    ("OAM_NUMBER_LAST_HELD", "bit_of(is_known(last))"),
-    ("OAM_NUMBER_LAST", "last_number(last)"),
-    ("OAM_NUMBER_ROLE", "role.number()"),
-    ("OAM_NUMBER_TICKS", "link_limit::ticks(meter)"),
-    (
-        "OAM_NUMBER_FRAMES_WRITTEN",
-        "link_limit::written_frames(meter)",
-    ),
+    ("OAM_NUMBER_RECORD_HELD", "peer.held.is_some()"),
+    ("OAM_NUMBER_RECORD", "says.version"),
+    ("OAM_NUMBER_LAST_HELD", "is_known(peer.last)"),
+    ("OAM_NUMBER_LAST", "last_number(peer.last)"),
+    ("OAM_NUMBER_ROLE", "end.role().number()"),
+    ("OAM_NUMBER_TICKS", "meter.ticks()"),
+    ("OAM_NUMBER_FRAMES_WRITTEN", "meter.written_frames()"),
     ("OAM_NUMBER_REVISION", "own.revision"),
     ("OAM_NUMBER_NEXT_EVENT", "own.number"),
-    ("OAM_NUMBER_DYING_GASP", "bit_of(own.gasp)"),
-    ("OAM_NUMBER_CRITICAL_EVENT", "bit_of(own.critical)"),
-    ("OAM_NUMBER_OWED", "bit_of(own.owed)"),
+    ("OAM_NUMBER_DYING_GASP", "own.gasp"),
+    ("OAM_NUMBER_CRITICAL_EVENT", "own.critical"),
+    ("OAM_NUMBER_OWED", "own.owed"),
 ];
 
 /// One of a watch's numbers.
@@ -179,13 +176,13 @@ fn misplaced_of_watch(header: &str) -> Vec<&'static str> {
 
 /// A record's numbers are those of an Information TLV.
 const RECORD: [(&str, &str); 7] = [
-    ("OAM_INFORMATION_VERSION", "i.version"),
-    ("OAM_INFORMATION_REVISION", "i.revision"),
-    ("OAM_INFORMATION_STATE", "i.state"),
-    ("OAM_INFORMATION_CONFIGURATION", "i.configuration"),
-    ("OAM_INFORMATION_OAMPDU_CONFIGURATION", "i.oampdu"),
-    ("OAM_INFORMATION_OUI", "i.oui"),
-    ("OAM_INFORMATION_VENDOR", "i.vendor"),
+    ("OAM_INFORMATION_VERSION", "says.version"),
+    ("OAM_INFORMATION_REVISION", "says.revision"),
+    ("OAM_INFORMATION_STATE", "says.state"),
+    ("OAM_INFORMATION_CONFIGURATION", "says.configuration"),
+    ("OAM_INFORMATION_OAMPDU_CONFIGURATION", "says.oampdu"),
+    ("OAM_INFORMATION_OUI", "says.oui"),
+    ("OAM_INFORMATION_VENDOR", "says.vendor"),
 ];
 
 /// The names whose place in the header is not where their number stands.
@@ -288,7 +285,7 @@ fn a_place_that_is_another_is_seen() {
     let source = text(&repository().join("crates/oam_numbers/src/lib.rt"));
     let changed = header.replace("OAM_NUMBER_OUI = 2", "OAM_NUMBER_OUI = 3");
     assert_eq!(misplaced(&changed, &source), ["OAM_NUMBER_OUI"]);
-    let changed = source.replace("i.revision as u64", "i.state as u64");
+    let changed = source.replace("says.revision", "says.state");
     assert_eq!(misplaced(&header, &changed), ["OAM_INFORMATION_REVISION"]);
     let changed = header.replace("OAM_NUMBER_STAMP = 41", "OAM_NUMBER_STAMP = 40");
     assert_eq!(misplaced_of_watch(&changed), ["OAM_NUMBER_STAMP"]);

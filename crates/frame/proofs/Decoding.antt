@@ -8,20 +8,23 @@ use borrow.Author.Tests.{ltb-false, lt-ltb, eqb-true, eq-eqb, ne_eqb}
 use lib.ListN.{length, get_or, drop, length-drop}
 use lib.Dec.{ltb, eqb}
 use Rattle.octets.specs.Octets.{Octets, num}
+use Rattle.octets.specs.declared.refusal.Refusal.{Refusal}
+use Rattle.octets.specs.Refusals.{number}
 use Rattle.octets.specs.Layout.{shortest_frame, longest_frame, destination, body_start, events_start}
 use Rattle.frame_tlvs.specs.Walk.{Walk, ends, breaks, over, part, whole, Parsed, refused as unread, parts, also, listed, skipped_in}
-use Rattle.frame_body.specs.Information.{InformationPart, information_step, next_of, information_walk, information_parts}
+use Rattle.frame_body.specs.Information.{information_step, next_of, information_walk, information_parts}
+use Rattle.frame_body.specs.declared.InformationPart.{InformationPart}
 use Rattle.frame_body.specs.Judging.{local_place, judged, judged_information}
 use Rattle.frame.specs.Reader.{list_answer, command_answer, other_answer, other_judgement, sixteen_bits, events_judgement, information_judgement, body_judgement}
 use Rattle.frame_tlvs.specs.Events.{event_step, next_of as event_next_of, event_walk}
 use Rattle.frame_tlvs.proofs.Walks.{few_skips}
 use Rattle.frame_tlvs.specs.declared.Event.{Event}
 use Rattle.frame_body.specs.Counting.{judged_walk, judged_events}
-use Rattle.frame_body.specs.declared.JudgedEvents.TheVariants.{Broken as BrokenEvent, Whole as WholeEvents}
+use Rattle.frame_body.specs.Counting.{BrokenEvent, WholeEvents}
 use Rattle.frame_body.specs.Variables.{descriptor_walk, container_walk}
 use Rattle.frame.specs.Frame.{refused, Body, information, notification, request, response, loopback, says, says_all, notified, header_answer, body_answer, decode, place_in, judgement, judgement_of}
-use Rattle.frame.specs.declared.Judgement.{Judgement}
-use Rattle.frame.specs.declared.Judgement.TheVariants.{Refused, Accepted}
+use Rattle.frame.specs.Judgement.{Judgement}
+use Rattle.frame.specs.Judgement.{Refused, Accepted}
 use Rattle.octets.proofs.Bools.{whether, by_cond, neither}
 
 -- a test of a code that is known
@@ -116,13 +119,18 @@ few_events : (s : List ℕ) → skipped_in (event_walk s) ≤ length s
 unfolding event_walk
 few_events s = few_skips (λ at. event_next_of (event_step s at)) (length s) 0
 
-pub header_refused : (f : List ℕ) → (header_answer f ≡ 0 → ⊥) → Refused (header_answer f) ≡ judgement_of f
-unfolding judgement_of decode
-header_refused f h = rw (ne_eqb (header_answer f) 0 h)
+-- no refusal has the number of none
+some_number : (r : Refusal) → 1 ≤ number r
+some_number r = grind arith
 
-pub body_judged : (f : List ℕ) → header_answer f ≡ 0 → body_judgement f ≡ judgement_of f
+pub header_refused : (f : List ℕ) (r : Refusal) → number r ≡ header_answer f → Refused (number r) ≡ judgement_of f
+unfolding judgement_of decode
+header_refused f r e = rw (← e, ne_eqb (number r) 0 (λ z. omega (arith, some_number r)))
+
+pub body_judged : (f : List ℕ) → 0 ≡ header_answer f → body_judgement f ≡ judgement_of f
 unfolding judgement_of decode body_answer body_judgement other_answer judged_information judged_events
-body_judged f h =
+body_judged f passed =
+    let h = sym passed in
     let code = get_or f 17 0 in
     let s = drop body_start f in
     let e = drop events_start f in

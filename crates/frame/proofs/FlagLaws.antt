@@ -1,15 +1,21 @@
 -- Flags taken apart and put together again: the parts come back, and so do the seven named bits of a number.
 use Prim.Native.Nat.{ℕ, ◌+◌, ◌*◌, ◌/◌, ◌%◌, ◌<◌}
 use mathlib.Core.Path.{◌≡◌}
+use mathlib.Core.Bool.{Bool}
 use native.Mathlib.Omega.{arith}
 use native.Mathlib.Nat.{mod-mod}
 use lib.Dec.{lit<}
+use mir.Val.{bool_byte}
 use lib.Arith.{mod-mul, digits_div, digits_mod}
 use Rattle.frame.specs.declared.Flags.{Flags}
 use Rattle.octets.specs.Bits.{bit_of}
 use Rattle.frame.specs.Flags.{flags_of, flags_number}
 use lib.Bits.{bit_or}
 use Rattle.octets.proofs.Masks.{or_sum, bit_lt, bit_back, bit_again}
+
+-- yes and no as a bit, as `From<bool>` has it
+pub bit_byte : (on : Bool) → bool_byte on ≡ bit_of on
+bit_byte on = grind arith
 
 -- the digit at c of x, where x is (q * m + r) * c + s
 digit : (x q r s : ℕ) {m c : ℕ} → x ≡ (q * m + r) * c + s → s < c → r < m → x / c % m ≡ r

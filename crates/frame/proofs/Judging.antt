@@ -15,7 +15,7 @@ use Rattle.frame_body.specs.Judging.{local_at}
 use Rattle.frame_body.proofs.Judging.{none_held, held_is_local}
 use Rattle.frame.specs.Frame.{Body, Message, code_of, Answer, refused, accepted, information, notification, request, response, loopback, organization, header_answer, decode, place_in, judgement, judgement_of, header_in, header_of, event_number, command_of, number_in, fixed_number, local_of}
 use Rattle.frame.specs.Steps.{Stepped}
-use Rattle.frame.specs.declared.Judgement.TheVariants.{Refused, Accepted}
+use Rattle.frame.specs.Judgement.{Refused, Accepted}
 use Rattle.frame.proofs.Decoding.{header_long}
 use Rattle.frame.proofs.Stepping.{shown}
 

@@ -11,7 +11,9 @@ use lib.Dec.{ltb, eqb}
 use Rattle.octets.specs.Octets.{num}
 use Rattle.octets.specs.Layout.{shortest_frame, longest_frame, destination, length_type, subtype, body_start, events_start, data_start}
 use Rattle.frame_tlvs.specs.Walk.{Walk, ends, breaks, over, part, met, Parsed, refused as unread, parts, also, listed, skipped_in}
-use Rattle.frame_body.specs.Information.{InformationPart, local, remote, information_walk, information_parts}
+use Rattle.frame_body.specs.Information.{information_walk, information_parts}
+use Rattle.frame_body.specs.declared.InformationPart.{InformationPart}
+use Rattle.frame_body.specs.declared.InformationPart.TheVariants.{Local as local, Remote as remote}
 use Rattle.frame_tlvs.specs.Events.{event_walk}
 use Rattle.frame_body.specs.Variables.{descriptor_walk, container_walk}
 use Rattle.frame.specs.Frame.{Body, Message, code_of, Answer, refused, accepted, information, notification, request, response, loopback, organization, says, says_all, header_answer, body_answer, decode}

@@ -1,18 +1,17 @@
 -- Frames: the message that a frame says, or the number of its refusal, and what is taken from the octets of either.
-use Rattle.std.specs.Prelude.{ℕ, List, false, not, cond, ◌||◌, length, get_or, drop, ltb, eqb}
+use Rattle.frame_body.specs.declared.Information.{Information}
+use Rattle.std.specs.Prelude.{ℕ, List, false, not, cond, ◌||◌, length, get_or, drop, ltb, eqb, Option, None}
 use Rattle.octets.specs.Octets.{num}
 use Rattle.octets.specs.Layout.{shortest_frame, longest_frame, destination, length_type, subtype, body_start, events_start, data_start}
 use Rattle.frame_tlvs.specs.Walk.{Walk, Parsed, refused as unread, parts, listed, skipped_in}
-use Rattle.frame_body.specs.Information.{InformationPart, information_walk, information_parts, local_in}
+use Rattle.frame_body.specs.Information.{information_walk, information_parts, local_in}
+use Rattle.frame_body.specs.declared.InformationPart.{InformationPart}
 use Rattle.frame_body.specs.Judging.{local_place}
 use Rattle.frame_tlvs.specs.Events.{event_walk}
 use Rattle.frame_body.specs.Variables.{Container, descriptor_walk, container_walk}
 use Rattle.frame_tlvs.specs.declared.Event.{Event}
-use Rattle.frame_body.specs.declared.Held.{Held}
-use Rattle.frame_body.specs.declared.Held.TheVariants.{Nothing}
 use Rattle.frame.specs.declared.Header.{Header}
-use Rattle.frame.specs.declared.Judgement.{Judgement}
-use Rattle.frame.specs.declared.Judgement.TheVariants.{Refused, Accepted}
+use Rattle.frame.specs.Judgement.{Judgement, Refused, Accepted}
 
 -- "Codes: 00 Information, 01 Event Notification, 02 Variable Request, 03 Variable Response, 04 Loopback Control, FE
 -- organization specific." A body with its parts in order.
@@ -137,10 +136,10 @@ fixed_number f =
     (cond (eqb (get_or f 17 0) 0xfe) (num 3 f body_start)
     0)))
 
-abbrev pub local_of : Body → Held
+abbrev pub local_of : Body → Option Information
 local_of (information ps) = local_in ps
-local_of (notification n es) = Nothing
-local_of (request ds) = Nothing
-local_of (response cs) = Nothing
-local_of (loopback n) = Nothing
-local_of (organization oui x) = Nothing
+local_of (notification n es) = None
+local_of (request ds) = None
+local_of (response cs) = None
+local_of (loopback n) = None
+local_of (organization oui x) = None

@@ -1,16 +1,16 @@
 -- How the code comes to its answers. No public promise mentions anything here.
 use Rattle.std.specs.Prelude.{ℕ, List, Bool, cond, length, get_or, drop, ltb, eqb}
+use Rattle.octets.specs.declared.refusal.Refusal.{Refusal}
 use Rattle.octets.specs.Layout.{body_start, events_start}
 use Rattle.frame_body.specs.Lists.{whole_list}
 use Rattle.frame_body.specs.Judging.{judged_information}
-use Rattle.frame_body.specs.declared.Judged.{Judged}
-use Rattle.frame_body.specs.declared.Judged.TheVariants.{Refused as RefusedBody, Whole}
+use Rattle.frame_body.specs.Judging.{Judged}
+use Rattle.frame_body.specs.Judging.{Refused as RefusedBody, Whole}
 use Rattle.frame_body.specs.Counting.{judged_events}
-use Rattle.frame_body.specs.declared.JudgedEvents.{JudgedEvents}
-use Rattle.frame_body.specs.declared.JudgedEvents.TheVariants.{Broken as BrokenEvent, Whole as WholeEvents}
-use Rattle.frame_body.specs.declared.ListKind.TheVariants.{Descriptors, Containers}
-use Rattle.frame.specs.declared.Judgement.{Judgement}
-use Rattle.frame.specs.declared.Judgement.TheVariants.{Refused, Accepted}
+use Rattle.frame_body.specs.Counting.{JudgedEvents}
+use Rattle.frame_body.specs.Counting.{BrokenEvent, WholeEvents}
+use Rattle.frame_body.specs.Lists.{Descriptors, Containers}
+use Rattle.frame.specs.Judgement.{Judgement, Refused, Accepted}
 
 abbrev pub list_answer : Bool → ℕ
 list_answer whole = cond whole 0 6

@@ -1,8 +1,9 @@
 // OAM frames of IEEE 802.3ah Clause 57: from octets to what they say.
 //
 // `judgement_of` answers for a whole frame. Of one that it accepts, `header_of` gives the header, `fixed_number`, `event_number`
-// and `command_of` the number at the body's start, `local_at` of `frame_body` the Local TLV, and the steps of `frame_body` and
-// `frame_tlvs` the parts in order, over `body(frame)`, or over `events_body(frame)` for the events of a notification.
+// and `command_of` the number at the body's start, `local_at` of `frame_body` the Local TLV, and the iterators and steps of
+// `frame_body` and `frame_tlvs` the parts in order, over `body(frame)`, or over `events_body(frame)` for the events of a
+// notification.
 #![tactic(auto)]
 
 mod flag_bits;
@@ -10,14 +11,13 @@ mod numbers;
 mod parts;
 mod reader;
 
-pub use flag_bits::{flags_number, flags_of};
 pub use numbers::{command_of, event_number, fixed_number, header_of};
 pub use parts::{body, events_body, organization_data};
 pub use reader::judgement_of;
 
 // What is shown of every accepted frame: the source address as a number, the flags (all sixteen bits), the code, and how many
 // TLVs were skipped.
-#[derive(Clone, Copy, Drop)]
+#[derive(Clone, Copy)]
 pub struct Header {
     pub source: u64,
     pub flags: u16,
@@ -26,7 +26,7 @@ pub struct Header {
 }
 
 // The named bits and fields of a flags number.
-#[derive(Drop)]
+#[derive(Clone, Copy)]
 pub struct Flags {
     pub fault: bool,
     pub gasp: bool,
@@ -35,10 +35,10 @@ pub struct Flags {
     pub remote: u16,
 }
 
-// What a frame comes to: the number of its refusal, or where the Local TLV stands in its body, the body's length where it has
-// none, and how many TLVs were skipped.
-#[derive(Drop)]
-pub enum Judgement {
-    Refused(u8),
-    Accepted(usize, u16),
+// What is known of an accepted frame: where the Local TLV stands in its body, the body's length where it has none, and how many TLVs
+// were skipped. With the refusal in its place this is two words.
+#[derive(Clone, Copy)]
+pub struct Accepted {
+    pub local: usize,
+    pub skipped: u16,
 }

@@ -20,11 +20,11 @@ pub fn header_of(frame: &[u8], skipped: u16) -> Header
         };
     }
     // the source's low octets before its high ones: the compiler then takes those four at once
-    let low = octets::join_four(frame[8], frame[9], frame[10], frame[11]);
-    let high = octets::join_two(frame[6], frame[7]);
+    let low = u32::from_be_bytes([frame[8], frame[9], frame[10], frame[11]]);
+    let high = u16::from_be_bytes([frame[6], frame[7]]);
     Header {
-        source: (high as u64) * 0x100000000 + (low as u64),
-        flags: octets::join_two(frame[15], frame[16]),
+        source: u64::from(high) * 0x100000000 + u64::from(low),
+        flags: u16::from_be_bytes([frame[15], frame[16]]),
         code: frame[17],
         skipped,
     }
@@ -38,7 +38,7 @@ pub fn event_number(frame: &[u8]) -> u16
     if frame.len() < octets::SHORTEST_FRAME {
         return 0;
     }
-    octets::join_two(frame[BODY_START], frame[BODY_START + 1])
+    u16::from_be_bytes([frame[BODY_START], frame[BODY_START + 1]])
 }
 
 // The command of a Loopback Control frame; 0 where a frame is too short to be accepted.
@@ -62,13 +62,14 @@ pub fn fixed_number(frame: &[u8]) -> u32
     }
     let code = frame[17];
     match code {
-        1 => octets::join_two(frame[BODY_START], frame[BODY_START + 1]) as u32,
-        4 => frame[BODY_START] as u32,
-        0xfe => octets::join_three(
+        1 => u32::from_be_bytes([0, 0, frame[BODY_START], frame[BODY_START + 1]]),
+        4 => u32::from(frame[BODY_START]),
+        0xfe => u32::from_be_bytes([
+            0,
             frame[BODY_START],
             frame[BODY_START + 1],
             frame[BODY_START + 2],
-        ),
+        ]),
         _ => 0,
     }
 }

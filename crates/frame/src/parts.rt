@@ -5,11 +5,7 @@ ghost use Rattle.octets.specs.Layout.{body_start, events_start, data_start};
 fn part_from(frame: &[u8], at: usize) -> &[u8]
     ensures { result.now ≡ drop at frame.now }
 {
-    if at <= frame.len() {
-        &frame[at..]
-    } else {
-        &frame[..0]
-    }
+    frame.get(at..).unwrap_or(&[])
 }
 
 // The body.

@@ -2,81 +2,38 @@
 ghost use Rattle.std.specs.Prelude.{◌≡◌, ◌≤◌, length};
 ghost use Rattle.octets.specs.Layout.{shortest_frame};
 ghost use Rattle.frame.specs.Frame.{header_answer, judgement_of};
-ghost use Rattle.frame.specs.Reader.{list_answer, command_answer, other_answer, other_judgement, sixteen_bits, events_judgement, information_judgement, body_judgement};
+ghost use Rattle.frame.specs.Judgement.{as_judgement};
+ghost use Rattle.octets.specs.Refusals.{as_answer};
+ghost use Rattle.frame.specs.Reader.{sixteen_bits, body_judgement};
 
-use crate::Judgement;
+use crate::Accepted;
 use crate::parts::{body, events_body};
-use frame_body::{Judged, JudgedEvents, ListKind};
+use octets::Refusal;
 
-// The tests 1 to 4 in order: the number of the first that fails, or 0.
+// The tests 1 to 4 in order: the first that fails.
 #[tactic(auto, unfolding(crate::specs::Frame::header_answer))]
-fn header_answer(frame: &[u8]) -> u8
-    ensures { result ≡ header_answer frame.now }
+fn judge_header(frame: &[u8]) -> Result<(), Refusal>
+    ensures { as_answer result ≡ header_answer frame.now }
 {
-    if frame.len() < octets::SHORTEST_FRAME {
-        return 1;
-    }
-    if frame.len() > octets::LONGEST_FRAME {
-        return 1;
+    if frame.len() < octets::SHORTEST_FRAME || octets::LONGEST_FRAME < frame.len() {
+        return Err(Refusal::WrongLength);
     }
     // the destination, as four octets and two: 01-80-C2-00-00-02
-    if octets::join_four(frame[0], frame[1], frame[2], frame[3])
+    if u32::from_be_bytes([frame[0], frame[1], frame[2], frame[3]])
         != (octets::DESTINATION >> 16) as u32
     {
-        return 2;
+        return Err(Refusal::WrongDestination);
     }
-    if octets::join_two(frame[4], frame[5]) != (octets::DESTINATION & 0xffff) as u16 {
-        return 2;
+    if u16::from_be_bytes([frame[4], frame[5]]) != (octets::DESTINATION & 0xffff) as u16 {
+        return Err(Refusal::WrongDestination);
     }
-    if octets::join_two(frame[12], frame[13]) != octets::LENGTH_TYPE {
-        return 3;
+    if u16::from_be_bytes([frame[12], frame[13]]) != octets::LENGTH_TYPE {
+        return Err(Refusal::WrongType);
     }
     if frame[14] != octets::SUBTYPE {
-        return 4;
+        return Err(Refusal::WrongSubtype);
     }
-    0
-}
-
-// 6 for a list that is broken.
-fn list_answer(whole: bool) -> u8
-    ensures { result ≡ list_answer whole }
-{
-    if whole { 0 } else { 6 }
-}
-
-fn command_answer(command: u8) -> u8
-    ensures { result ≡ command_answer command }
-{
-    if command == 1 {
-        return 0;
-    }
-    if command == 2 { 0 } else { 8 }
-}
-
-// The answer to the body of a code other than 00 and 01: no TLVs stand in it.
-#[tactic(auto, unfolding(crate::specs::Reader::other_answer))]
-fn other_answer(frame: &[u8], code: u8) -> u8
-    requires { shortest_frame ≤ length frame.now }
-    ensures { result ≡ other_answer frame.now code }
-{
-    match code {
-        2 => list_answer(frame_body::is_whole(ListKind::Descriptors, body(frame))),
-        3 => list_answer(frame_body::is_whole(ListKind::Containers, body(frame))),
-        4 => command_answer(frame[octets::BODY_START]),
-        0xfe => 0,
-        _ => 5,
-    }
-}
-
-// An answer to a body of some octets that has no TLV.
-fn other_judgement(answer: u8, octets: usize) -> Judgement
-    ensures { result ≡ other_judgement answer octets }
-{
-    if answer == 0 {
-        Judgement::Accepted(octets, 0)
-    } else {
-        Judgement::Refused(answer)
-    }
+    Ok(())
 }
 
 // A number of skipped TLVs in sixteen bits, which is more than a frame has room for: a judgement and a header are handed on in two
@@ -84,53 +41,39 @@ fn other_judgement(answer: u8, octets: usize) -> Judgement
 fn sixteen_bits(skipped: usize) -> u16
     ensures { result ≡ sixteen_bits skipped }
 {
-    if skipped < 0xffff {
-        skipped as u16
-    } else {
-        0xffff
-    }
+    skipped.min(0xffff) as u16
 }
 
-// What a notification comes to by its events. Its body of some octets has no Local TLV.
-fn events_judgement(events: JudgedEvents, octets: usize) -> Judgement
-    ensures { result ≡ events_judgement events octets }
-{
-    match events {
-        JudgedEvents::Broken => Judgement::Refused(6),
-        JudgedEvents::Whole(skipped) => Judgement::Accepted(octets, sixteen_bits(skipped)),
-    }
-}
-
-fn information_judgement(judged: Judged) -> Judgement
-    ensures { result ≡ information_judgement judged }
-{
-    match judged {
-        Judged::Refused(answer) => Judgement::Refused(answer),
-        Judged::Whole(at, skipped) => Judgement::Accepted(at, sixteen_bits(skipped)),
-    }
-}
-
-#[tactic(auto, unfolding(crate::specs::Reader::body_judgement))]
-fn body_judgement(frame: &[u8]) -> Judgement
+// The body by its code: 00 and 01 have TLVs, and only those can have a Local or skip any.
+#[tactic(auto, unfolding(crate::specs::Reader::body_judgement, crate::specs::Reader::other_answer))]
+fn judge_body(frame: &[u8]) -> Result<Accepted, Refusal>
     requires { shortest_frame ≤ length frame.now }
-    ensures { result ≡ body_judgement frame.now }
+    ensures { as_judgement result ≡ body_judgement frame.now }
 {
-    let code = frame[17];
-    let octets = frame.len() - octets::BODY_START;
-    match code {
-        0 => information_judgement(frame_body::judged_information(body(frame))),
-        1 => events_judgement(frame_body::judged_events(events_body(frame)), octets),
-        _ => other_judgement(other_answer(frame, code), octets),
+    let local = body(frame).len();
+    match frame[17] {
+        0 => frame_body::judged_information(body(frame)).map(|whole| Accepted {
+            local: whole.local,
+            skipped: sixteen_bits(whole.skipped),
+        }),
+        1 => frame_body::judged_events(events_body(frame)).map(|skipped| Accepted {
+            local,
+            skipped: sixteen_bits(skipped),
+        }),
+        2 if !frame_body::descriptors_are_whole(body(frame)) => Err(Refusal::Broken),
+        3 if !frame_body::containers_are_whole(body(frame)) => Err(Refusal::Broken),
+        4 if !matches!(frame[octets::BODY_START], 1 | 2) => Err(Refusal::WrongCommand),
+        2..=4 | 0xfe => Ok(Accepted { local, skipped: 0 }),
+        _ => Err(Refusal::WrongCode),
     }
 }
 
-// The number of a frame's refusal, or that it is accepted, with where its Local TLV stands and how many TLVs were skipped.
-pub fn judgement_of(frame: &[u8]) -> Judgement
-    ensures { result ≡ judgement_of frame.now }
+// What a frame comes to: the first thing that it is refused for, `WrongLength` to `WrongCommand` of `Refusal`, or what is known of
+// it.
+#[tactic(auto, using(crate::proofs::Decoding::header_long, crate::proofs::Decoding::header_refused, crate::proofs::Decoding::body_judged))]
+pub fn judgement_of(frame: &[u8]) -> Result<Accepted, Refusal>
+    ensures { as_judgement result ≡ judgement_of frame.now }
 {
-    let answer = header_answer(frame);
-    if answer != 0 {
-        return Judgement::Refused(answer);
-    }
-    body_judgement(frame)
+    judge_header(frame)?;
+    judge_body(frame)
 }

@@ -4,3 +4,4 @@ pub mod Wholes
 pub mod Strides
 pub mod Places
 mod Skips
+mod Items

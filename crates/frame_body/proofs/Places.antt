@@ -4,30 +4,20 @@ use mathlib.Core.Path.{◌≡◌, ap}
 use mathlib.Core.List.{List}
 use native.Mathlib.Omega.{arith}
 use lib.ListN.{length}
-use Rattle.frame_tlvs.specs.Tlvs.{mark_at}
 use Rattle.frame_tlvs.specs.Walk.{Next, on_next, walk}
-use Rattle.frame_tlvs.specs.Events.{step_of, event_step, next_of}
+use Rattle.frame_tlvs.specs.Events.{event_step, next_of}
 use Rattle.frame_body.specs.Information.{information_step, next_of as information_next_of}
 use Rattle.frame_body.specs.Variables.{descriptor_step, descriptor_next, container_step, container_next}
-use Rattle.frame_tlvs.specs.declared.Mark.{Mark}
-use Rattle.frame_tlvs.specs.declared.Mark.TheVariants.{End as MarkEnd, Broken as MarkBroken, Unknown, Known}
-use Rattle.frame_tlvs.specs.declared.Kind.TheVariants.{Events}
-use Rattle.frame_body.specs.declared.DescriptorStep.{DescriptorStep}
-use Rattle.frame_body.specs.declared.DescriptorStep.TheVariants.{End as DescriptorEnd, Broken as DescriptorBroken, Has}
-use Rattle.frame_body.specs.declared.ContainerStep.{ContainerStep}
-use Rattle.frame_body.specs.declared.ContainerStep.TheVariants.{End, Broken, Value, Indication}
+use Rattle.frame_body.specs.Variables.{DescriptorStep}
+use Rattle.frame_body.specs.Variables.{DescriptorEnd, DescriptorBroken, Has}
+use Rattle.frame_body.specs.Variables.{ContainerStep}
+use Rattle.frame_body.specs.Variables.{End, Broken, Value, Indication}
 use Rattle.frame_tlvs.proofs.Walks.{Ahead, Leads, unrolls}
-use Rattle.frame_tlvs.proofs.Marks.{Marked, mark_within, mark_end}
+use Rattle.frame_tlvs.proofs.Items.{event_leads}
 use Rattle.frame_body.proofs.Judging.{information_leads}
 use Rattle.frame_body.proofs.Wholes.{Described, descriptor_within, descriptor_end, Contained, container_within, container_end}
 
 module _ (s : List ℕ) (at : ℕ) where
-  event_ahead : (mark : Mark) → Marked Events at (length s) mark → Ahead at (length s) (next_of (step_of s at mark))
-  event_ahead MarkEnd h = tt
-  event_ahead MarkBroken h = tt
-  event_ahead (Unknown n) h = h
-  event_ahead (Known t n) h = (h.0, h.1)
-
   descriptor_ahead : (x : DescriptorStep) → Described at (length s) x → Ahead at (length s) (descriptor_next x)
   descriptor_ahead DescriptorEnd h = tt
   descriptor_ahead DescriptorBroken h = tt
@@ -40,14 +30,6 @@ module _ (s : List ℕ) (at : ℕ) where
   container_ahead (Indication d o n) h = (omega arith, h.1)
 
 module _ (s : List ℕ) where
-  pub event_leads : Leads (λ at. next_of (event_step s at)) (length s)
-  unfolding event_step
-  event_leads =
-      record {
-        end = λ at h. ap (λ (m : Mark). next_of (step_of s at m)) (mark_end Events s at h);
-        ahead = λ at. event_ahead s at (mark_at Events s at) (mark_within Events s at);
-      }
-
   pub descriptor_leads : Leads (λ at. descriptor_next (descriptor_step s at)) (length s)
   descriptor_leads =
       record {

@@ -1,25 +1,28 @@
 -- Laws of the loops over a list of descriptors or containers: what holds at each turn, and what a turn comes to. They are taken by
 -- strides: a part that is cut off shows by the octet after it, which lies past the body's end.
-use Prim.Native.Nat.{ℕ, ◌+◌, ◌-◌, ◌<◌, ◌≤◌}
+use Prim.Native.Nat.{ℕ, zero, suc, ◌+◌, ◌-◌, ◌*◌, ◌<◌, ◌≤◌}
 use mathlib.Core.Path.{◌≡◌, refl, sym, ap, subst, ◌∙◌}
 use mathlib.Core.Bool.{Bool, true, false, cond}
-use mathlib.Core.List.{List}
+use mathlib.Core.List.{List, []}
+use Rattle.std.proofs.Common.{drop, ◌/◌}
+use Rattle.std.specs.Simd.{first_chunks}
+use Rattle.std.proofs.lemmas.List.{get_or-take, get_or-drop}
 use mathlib.Core.Logic.{◌⊎◌, inl, inr}
 use native.Mathlib.Omega.{arith}
-use borrow.Author.Tests.{ltb-true, leb-true, leb-false, lt-ltb, le-ltb, le-leb, lt-leb, eq-eqb}
+use borrow.Author.Tests.{ltb-true, eqb-true, leb-true, leb-false, lt-ltb, le-ltb, le-leb, lt-leb, eq-eqb}
 use lib.ListN.{length, get_or}
 use lib.Dec.{ltb, leb, eqb}
 use Rattle.octets.specs.Octets.{num}
-use Rattle.octets.proofs.Bools.{whether, by_cond}
+use Rattle.octets.proofs.Bools.{whether}
 use Rattle.frame_tlvs.specs.Walk.{Next, stop, broken, has, whole}
 use Rattle.frame_tlvs.proofs.Walks.{Ahead, Rest, Then, Leads, turn}
 use Rattle.frame_body.specs.Variables.{Container, descriptor_step, descriptor_next, descriptor_walk, width_of, value_octets, container_from, container_step, container_next, container_walk}
 use Rattle.frame_body.specs.Lists.{whole_list}
-use Rattle.frame_body.specs.declared.DescriptorStep.{DescriptorStep}
-use Rattle.frame_body.specs.declared.DescriptorStep.TheVariants.{End as DescriptorEnd, Broken as DescriptorBroken, Has}
-use Rattle.frame_body.specs.declared.ContainerStep.TheVariants.{Broken, Value, Indication}
-use Rattle.frame_body.specs.declared.ListKind.{ListKind}
-use Rattle.frame_body.specs.declared.ListKind.TheVariants.{Descriptors, Containers}
+use Rattle.frame_body.specs.Variables.{DescriptorStep}
+use Rattle.frame_body.specs.Variables.{DescriptorEnd, DescriptorBroken, Has}
+use Rattle.frame_body.specs.Variables.{Broken, Value, Indication}
+use Rattle.frame_body.specs.Lists.{ListKind}
+use Rattle.frame_body.specs.Lists.{Descriptors, Containers}
 use Rattle.frame_body.proofs.Places.{descriptor_leads, container_leads}
 
 -- the parts of each kind of list, and what stands at an octet as a step of the walk over them
@@ -110,6 +113,15 @@ module _ (s : List ℕ) (at : ℕ) where
       (λ t. leading Descriptors s at (at + 3) (num 3 s at) g (ap descriptor_next (full_descriptor b (leb-true _ _ t))))
       (λ f. let k : length s < at + 3 = leb-false _ _ f in passing Descriptors s at (at + 3) g (ap descriptor_next (cut_descriptor h b k)) k)
 
+  -- what is left where fewer than three octets are
+  pub descriptors_rest : Strode Descriptors s at → at < length s → length s < at + 3 → eqb (get_or s at 0) 0 ≡ whole_list Descriptors s
+  descriptors_rest w h k =
+      whether (eqb (get_or s at 0) 0) (λ z. z ∙ descriptors_end w h (eqb-true (get_or s at 0) 0 z)) (λ b. b ∙ cut_off (descriptor_stride w h b))
+    where
+      cut_off : Strode Descriptors s (at + 3) → false ≡ whole_list Descriptors s
+      cut_off (inl w) = absurd (omega (arith, w.0))
+      cut_off (inr w) = sym w.1
+
   -- ---- containers
 
   pub containers_end : Strode Containers s at → at < length s → get_or s at 0 ≡ 0 → true ≡ whole_list Containers s
@@ -159,8 +171,14 @@ module _ (s : List ℕ) (at : ℕ) where
       let step : container_step s at ≡ Value d v (at + 4 + v) = full_container b k ∙ simp (f, ← octets, f2) in
       leading Containers s at (at + 4 + v) _ g (ap (container_next s) step)))
 
--- a value has at most 128 octets
-pub value_upto : (v octet : ℕ) → v ≡ value_octets octet → v ≤ 128
-value_upto v octet e =
-    let P : ℕ → Type 0 = λ n. v ≡ n → v ≤ 128 in
-    by_cond P (leb 128 octet) (λ _ h. omega arith) (λ f. by_cond P (eqb octet 0) (λ _ h. omega arith) (λ _ h. omega (arith, leb-false))) e
+-- the branches of a body's descriptors, three octets each
+chunk_at : (k i : ℕ) (s : List ℕ) → i < k → get_or (get_or (first_chunks 3 k s) i []) 0 0 ≡ get_or s (3 * i) 0
+chunk_at zero i s h = absurd (omega arith)
+chunk_at (suc k) zero s h = get_or-take 3 s 0 0 (omega arith)
+chunk_at (suc k) (suc i) s h =
+    let on : 3 + 3 * i ≡ 3 * suc i = omega arith in
+    chunk_at k i (drop 3 s) (omega arith) ∙ get_or-drop 3 s (3 * i) 0 ∙ ap (λ (n : ℕ). get_or s n 0) on
+
+module _ (s : List ℕ) (ds : List (List ℕ)) (chunks : ds ≡ first_chunks 3 (length s / 3) s) (i : ℕ) (h : i < length s / 3) where
+  pub branch_at : get_or (get_or ds i []) 0 0 ≡ get_or s (3 * i) 0
+  branch_at = ap (λ (l : List (List ℕ)). get_or (get_or l i []) 0 0) chunks ∙ chunk_at (length s / 3) i s h

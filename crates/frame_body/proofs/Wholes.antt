@@ -7,10 +7,10 @@ use borrow.Author.Tests.{ltb-false, leb-false, le-leb}
 use lib.ListN.{length, get_or}
 use lib.Dec.{ltb, leb, eqb}
 use Rattle.frame_body.specs.Variables.{descriptor_step, width_of, container_from, container_step}
-use Rattle.frame_body.specs.declared.DescriptorStep.{DescriptorStep}
-use Rattle.frame_body.specs.declared.DescriptorStep.TheVariants.{End as DescriptorEnd, Broken as DescriptorBroken, Has as HasDescriptor}
-use Rattle.frame_body.specs.declared.ContainerStep.{ContainerStep}
-use Rattle.frame_body.specs.declared.ContainerStep.TheVariants.{End as ContainerEnd, Broken as ContainerBroken, Value, Indication}
+use Rattle.frame_body.specs.Variables.{DescriptorStep}
+use Rattle.frame_body.specs.Variables.{DescriptorEnd, DescriptorBroken, Has as HasDescriptor}
+use Rattle.frame_body.specs.Variables.{ContainerStep}
+use Rattle.frame_body.specs.Variables.{End as ContainerEnd, Broken as ContainerBroken, Value, Indication}
 use Rattle.octets.proofs.Bools.{by_cond}
 
 -- where a descriptor, and what follows it in a container, stands

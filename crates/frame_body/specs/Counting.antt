@@ -1,16 +1,25 @@
 -- The TLV walk over a body with the number of TLVs that it has skipped.
-use Rattle.std.specs.Prelude.{ℕ, List, cond}
-use Rattle.frame_tlvs.specs.Walk.{Walk, whole, skipped_in}
+use Rattle.std.specs.Prelude.{ℕ, ◌≡◌, List, cond, length, Option, None, Some, Result, Ok, Err}
+use Rattle.std.specs.Iterator.{YieldsFirst}
+use Rattle.octets.specs.declared.refusal.Refusal.{Refusal}
+use Rattle.frame_tlvs.specs.Walk.{Walk, walk, whole, skipped_in, items}
 use Rattle.frame_tlvs.specs.Events.{event_walk}
 use Rattle.frame_tlvs.specs.Counting.{behind, skipping}
 use Rattle.frame_tlvs.specs.declared.Cursor.{Cursor}
-use Rattle.frame_body.specs.Information.{information_step}
-use Rattle.frame_body.specs.declared.InformationStep.{InformationStep}
-use Rattle.frame_body.specs.declared.InformationStep.TheVariants.{End as StepEnd, Broken as StepBroken, Skip as StepSkip, Local as StepLocal, Remote as StepRemote}
-use Rattle.frame_body.specs.declared.InformationNext.{InformationNext}
-use Rattle.frame_body.specs.declared.InformationNext.TheVariants.{End, Broken, Skip, Local, Remote}
-use Rattle.frame_body.specs.declared.JudgedEvents.{JudgedEvents}
-use Rattle.frame_body.specs.declared.JudgedEvents.TheVariants.{Broken as ListBroken, Whole}
+use Rattle.frame_body.specs.Information.{InformationStep, End as StepEnd, Broken as StepBroken, Skip as StepSkip, Local as StepLocal, Remote as StepRemote, information_step, next_of}
+use Rattle.frame_body.specs.declared.Information.{Information}
+use Rattle.frame_body.specs.declared.InformationPart.{InformationPart}
+use Rattle.frame_body.specs.declared.InformationPart.TheVariants.{Local as local, Remote as remote}
+use Rattle.frame_body.specs.declared.Informations.{Informations}
+
+-- A step with the cursor after it; at the end the number of all TLVs that were skipped. In the cursor behind a Local or Remote
+-- stands the number that were skipped before it.
+pub data InformationNext : Type 0 where
+  End : ℕ → InformationNext
+  Broken : InformationNext
+  Skip : Cursor → InformationNext
+  Local : Information → Cursor → InformationNext
+  Remote : Information → Cursor → InformationNext
 
 abbrev pub counted_step : Cursor → InformationStep → InformationNext
 counted_step c StepEnd = End c.skipped
@@ -23,9 +32,43 @@ counted_step c (StepRemote i next) = Remote i (behind c next)
 unfoldable pub information_next : List ℕ → Cursor → InformationNext
 information_next s c = counted_step c (information_step s c.at)
 
+-- ---- the iterator over the parts of an Information body
+
+abbrev pub Item : Type 0
+Item = Result (Option InformationPart) Refusal
+
+-- a step of the iterator, which then stands at the cursor after it
+abbrev pub as_information_next : Option Item → Cursor → InformationNext
+as_information_next None c = End c.skipped
+as_information_next (Some (Err r)) c = Broken
+as_information_next (Some (Ok None)) c = Skip c
+as_information_next (Some (Ok (Some (local i)))) c = Local i c
+as_information_next (Some (Ok (Some (remote i)))) c = Remote i c
+
+-- what an iterator has left
+abbrev pub left : Informations → List Item
+left i = items (walk (λ at. next_of (information_step i.body.now at)) (length i.body.now) i.cursor.at)
+
+-- A call of `next`: it gives the first of what was left, and then stands at the cursor of the step.
+abbrev pub Steps : Informations → Option Item → Informations → Type 0
+Steps i item j =
+    YieldsFirst left i item j × (j.body.now ≡ i.body.now) × (as_information_next item j.cursor ≡ information_next i.body.now i.cursor)
+
+-- ---- the events of a notification
+
+-- What they come to: one is broken, or how many TLVs are skipped among them.
+pub data JudgedEvents : Type 0 where
+  BrokenEvent : JudgedEvents
+  WholeEvents : ℕ → JudgedEvents
+
+-- the judgement that the code gives
+abbrev pub as_judged_events : Result ℕ Refusal → JudgedEvents
+as_judged_events (Err r) = BrokenEvent
+as_judged_events (Ok skipped) = WholeEvents skipped
+
 -- whether a walk ends, and does not break off, and then how many TLVs it skips
 abbrev pub judged_walk : {P : Type 0} → Walk P → JudgedEvents
-judged_walk w = cond (whole w) (Whole (skipped_in w)) ListBroken
+judged_walk w = cond (whole w) (WholeEvents (skipped_in w)) BrokenEvent
 
 unfoldable pub judged_events : List ℕ → JudgedEvents
 judged_events s = judged_walk (event_walk s)

@@ -1,13 +1,23 @@
 -- What an Information body comes to, and the Local TLV that stands in it.
-use Rattle.std.specs.Prelude.{ℕ, ◌+◌, List, false, cond, length, get_or, ltb}
+use Rattle.std.specs.Prelude.{ℕ, ◌+◌, List, false, cond, length, get_or, ltb, Option, None, Some, Result, Ok, Err}
+use Rattle.octets.specs.Refusals.{number}
+use Rattle.octets.specs.declared.refusal.Refusal.{Refusal}
 use Rattle.frame_tlvs.specs.Walk.{Next, stop, broken, skip, has, walk, met, skipped_in, Parsed, refused, parts}
-use Rattle.frame_body.specs.Information.{information_at, information_step, InformationPart, information_walk, information_parts}
-use Rattle.frame_body.specs.declared.InformationStep.{InformationStep}
-use Rattle.frame_body.specs.declared.InformationStep.TheVariants.{End, Broken, Skip, Local, Remote}
-use Rattle.frame_body.specs.declared.Held.{Held}
-use Rattle.frame_body.specs.declared.Held.TheVariants.{Nothing, Is}
-use Rattle.frame_body.specs.declared.Judged.{Judged}
-use Rattle.frame_body.specs.declared.Judged.TheVariants.{Refused, Whole}
+use Rattle.frame_body.specs.Information.{information_at, InformationStep, End, Broken, Skip, Local, Remote, information_step, information_walk, information_parts}
+use Rattle.frame_body.specs.declared.Information.{Information}
+use Rattle.frame_body.specs.declared.InformationPart.{InformationPart}
+use Rattle.frame_body.specs.declared.Whole.{Whole as FoundWhole}
+
+-- What an Information body comes to: the number of its refusal, or where its Local TLV stands, the body's length where it has none,
+-- and how many TLVs are skipped in it.
+pub data Judged : Type 0 where
+  Refused : ℕ → Judged
+  Whole : ℕ → ℕ → Judged
+
+-- the judgement that the code gives
+abbrev pub as_judged : Result FoundWhole Refusal → Judged
+as_judged (Err r) = Refused (number r)
+as_judged (Ok w) = Whole w.local w.skipped
 
 -- what stands at octet `at` as a step of a walk whose parts are the octets of the Locals
 abbrev pub local_next : ℕ → InformationStep → Next ℕ
@@ -29,5 +39,5 @@ unfoldable pub judged_information : List ℕ → Judged
 judged_information s = judged (local_place s) (skipped_in (information_walk s)) (information_parts false false (information_walk s))
 
 -- the Local TLV at octet `at` where one stands, whatever its type octet says; nothing where sixteen octets would run past the end
-unfoldable pub local_at : List ℕ → ℕ → Held
-local_at s at = cond (ltb (length s) (at + 16)) Nothing (Is (information_at s at))
+unfoldable pub local_at : List ℕ → ℕ → Option Information
+local_at s at = cond (ltb (length s) (at + 16)) None (Some (information_at s at))

@@ -2,8 +2,11 @@
 use Rattle.std.specs.Prelude.{ℕ, List, Bool}
 use Rattle.frame_tlvs.specs.Walk.{whole}
 use Rattle.frame_body.specs.Variables.{descriptor_walk, container_walk}
-use Rattle.frame_body.specs.declared.ListKind.{ListKind}
-use Rattle.frame_body.specs.declared.ListKind.TheVariants.{Descriptors, Containers}
+
+-- the kinds of list in which nothing is skipped
+pub data ListKind : Type 0 where
+  Descriptors : ListKind
+  Containers : ListKind
 
 -- the walk over it ends, and does not break off
 abbrev pub whole_list : ListKind → List ℕ → Bool

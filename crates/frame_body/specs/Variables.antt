@@ -1,11 +1,42 @@
 -- The descriptors of a Variable Request and the containers of a Variable Response.
-use Rattle.std.specs.Prelude.{ℕ, ◌+◌, ◌-◌, List, [], cond, length, get_or, take, drop, ltb, leb, eqb}
+use Rattle.std.specs.Prelude.{ℕ, ◌+◌, ◌-◌, List, [], cond, length, get_or, take, drop, ltb, leb, eqb, Option, None, Some, Result, Ok, Err}
 use Rattle.octets.specs.Octets.{num}
+use Rattle.octets.specs.declared.refusal.Refusal.{Refusal}
 use Rattle.frame_tlvs.specs.Walk.{Next, stop, broken, has, Walk, walk}
-use Rattle.frame_body.specs.declared.DescriptorStep.{DescriptorStep}
-use Rattle.frame_body.specs.declared.DescriptorStep.TheVariants.{End as DescriptorEnd, Broken as DescriptorBroken, Has}
-use Rattle.frame_body.specs.declared.ContainerStep.{ContainerStep}
-use Rattle.frame_body.specs.declared.ContainerStep.TheVariants.{End, Broken, Value, Indication}
+use Rattle.frame_tlvs.specs.declared.Placed.{Placed}
+use Rattle.frame_body.specs.declared.Container.{Container as FoundContainer}
+use Rattle.frame_body.specs.declared.Content.{Content}
+use Rattle.frame_body.specs.declared.Content.TheVariants.{Value as FoundValue, Indication as FoundIndication}
+
+-- A descriptor is one number, the branch above the leaf's sixteen bits; with the octet after it.
+pub data DescriptorStep : Type 0 where
+  DescriptorEnd : DescriptorStep
+  DescriptorBroken : DescriptorStep
+  Has : ℕ → ℕ → DescriptorStep
+
+-- the step that the code takes
+abbrev pub as_descriptor_step : Option (Result (Placed ℕ) Refusal) → DescriptorStep
+as_descriptor_step None = DescriptorEnd
+as_descriptor_step (Some (Err r)) = DescriptorBroken
+as_descriptor_step (Some (Ok p)) = Has p.part p.end
+
+-- A container's descriptor, then the number of its value's octets, or its width octet as received, 128 or more, whose low seven
+-- bits are the indication; with the octet after it.
+pub data ContainerStep : Type 0 where
+  End : ContainerStep
+  Broken : ContainerStep
+  Value : ℕ → ℕ → ℕ → ContainerStep
+  Indication : ℕ → ℕ → ℕ → ContainerStep
+
+abbrev pub placed_content : ℕ → Content → ℕ → ContainerStep
+placed_content descriptor (FoundValue width) next = Value descriptor width next
+placed_content descriptor (FoundIndication octet) next = Indication descriptor octet next
+
+-- the step that the code takes
+abbrev pub as_container_step : Option (Result (Placed FoundContainer) Refusal) → ContainerStep
+as_container_step None = End
+as_container_step (Some (Err r)) = Broken
+as_container_step (Some (Ok p)) = placed_content p.part.descriptor p.part.content p.end
 
 -- "Descriptor: branch 1, leaf 2; branch 0 ends the list, even where its leaf is cut off (containers too)." "A part cut off by
 -- the frame's end is broken." The frame's end ends the list too.

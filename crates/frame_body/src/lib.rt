@@ -1,9 +1,9 @@
 // The bodies of OAM frames: the Information TLVs, descriptors and containers that stand in their octets.
 //
-// The parts of a body are taken in order, one a call, by the step of their kind: `descriptor_step` and `container_step` begin at
-// octet 0 and go on at the octet that each step gives, `information_next`, and for events `event_next` of `frame_tlvs`, begin at
-// `start()` of `frame_tlvs` and go on at the cursor that each gives, until the end. A step judges what stands at its octet alone:
-// a second Local is shown as a Local, and it is `judged_information` that refuses such a body.
+// The parts of a body are taken in order: those of an Information body by the iterator `Informations`, those of a notification by
+// `Events` of `frame_tlvs`; descriptors and containers one a call, by `descriptor_step` and `container_step`, which begin at octet
+// 0 and go on at the octet that each step gives, until the end. A step judges what stands at its octet alone: a second Local is
+// shown as a Local, and it is `judged_information` that refuses such a body.
 //
 // Nothing is copied out of a body but numbers: what is longer is a part of the caller's own octets.
 #![tactic(auto)]
@@ -13,15 +13,15 @@ mod lists;
 mod local_remote;
 mod variables;
 
-pub use counting::{information_next, judged_events};
+pub use counting::judged_events;
 use frame_tlvs::Cursor;
-pub use lists::is_whole;
+pub use lists::{containers_are_whole, descriptors_are_whole};
 pub use local_remote::{information_step, judged_information, local_at};
 pub use variables::{container_step, container_value, descriptor_step};
 
 // The fields of one Information TLV, with the bits that are ignored as they were received; `oampdu` is the OAMPDU
 // configuration, whose low 11 bits are the maximum size.
-#[derive(Clone, Copy, Drop)]
+#[derive(Clone, Copy, Default)]
 pub struct Information {
     pub version: u8,
     pub revision: u16,
@@ -35,77 +35,45 @@ pub struct Information {
 // The width in octets of each field, in their order.
 pub const INFORMATION_WIDTHS: [usize; 7] = [1, 2, 1, 1, 2, 3, 4];
 
-// A Local or Remote TLV, or that there is none.
-#[derive(Clone, Copy, Drop)]
-pub enum Held {
-    Nothing,
-    Is(Information),
-}
-
 // The Local and the Remote Information TLV of a frame.
-#[derive(Drop)]
+#[derive(Clone, Copy)]
 pub struct Found {
-    pub local: Held,
-    pub remote: Held,
+    pub local: Option<Information>,
+    pub remote: Option<Information>,
 }
 
-// What an Information body comes to: the number of its refusal, or where its Local TLV stands, the body's length where it
-// has none, and how many TLVs are skipped in it.
-#[derive(Drop)]
-pub enum Judged {
-    Refused(u8),
-    Whole(usize, usize),
+// A whole Information body: where its Local TLV stands, the body's length where it has none, and how many TLVs are skipped in it.
+#[derive(Clone, Copy)]
+pub struct Whole {
+    pub local: usize,
+    pub skipped: usize,
 }
 
-// What the events of a notification come to: one is broken, or how many TLVs are skipped among them.
-#[derive(Drop)]
-pub enum JudgedEvents {
-    Broken,
-    Whole(usize),
+// A part of an Information body.
+#[derive(Clone, Copy)]
+pub enum InformationPart {
+    Local(Information),
+    Remote(Information),
 }
 
-// What stands at an octet of a body, with the octet after it. An unknown TLV is to be skipped.
-#[derive(Drop)]
-pub enum InformationStep {
-    End,
-    Broken,
-    Skip(usize),
-    Local(Information, usize),
-    Remote(Information, usize),
+// The parts of an Information body in order, from a cursor on: each item is a Local or Remote, or `None` for a TLV of unknown type,
+// which is skipped. What is broken comes as `Refusal::Broken`, and nothing comes after it.
+#[derive(Clone, Drop)]
+pub struct Informations<'a> {
+    body: &'a [u8],
+    cursor: Cursor,
 }
 
-// A step with the cursor after it; at the end the number of all TLVs that were skipped. In the cursor behind a Local or Remote
-// stands the number that were skipped before it.
-#[derive(Drop)]
-pub enum InformationNext {
-    End(usize),
-    Broken,
-    Skip(Cursor),
-    Local(Information, Cursor),
-    Remote(Information, Cursor),
+// A container: its descriptor, which is one number, the branch above the leaf's sixteen bits, and what it holds.
+#[derive(Clone, Copy)]
+pub struct Container {
+    pub descriptor: u32,
+    pub content: Content,
 }
 
-// A descriptor is one number, the branch above the leaf's sixteen bits.
-#[derive(Drop)]
-pub enum DescriptorStep {
-    End,
-    Broken,
-    Has(u32, usize),
-}
-
-// A container's descriptor, then the number of its value's octets, or its width octet as received, 128 or more, whose low
-// seven bits are the indication.
-#[derive(Drop)]
-pub enum ContainerStep {
-    End,
-    Broken,
-    Value(u32, usize, usize),
-    Indication(u32, u8, usize),
-}
-
-// The kinds of list in which nothing is skipped.
-#[derive(Drop)]
-pub enum ListKind {
-    Descriptors,
-    Containers,
+// The number of a value's octets, or a width octet as received, 128 or more, whose low seven bits are the indication.
+#[derive(Clone, Copy)]
+pub enum Content {
+    Value(usize),
+    Indication(u8),
 }

@@ -1,27 +1,25 @@
 // Whether a body that is a list of parts is whole: the walk over it ends, and does not break off.
 ghost use Rattle.std.specs.Prelude.{◌≡◌};
-ghost use Rattle.frame_body.specs.Lists.{whole_list};
-ghost use Rattle.frame_body.specs.declared.ListKind.TheVariants.{Descriptors, Containers};
+ghost use Rattle.frame_body.specs.Lists.{Descriptors, Containers, whole_list};
 
-use crate::ListKind;
 use crate::variables::value_octets;
 
-// Every descriptor has three octets: only the last can be cut off, and then the walk goes past the body's end.
-fn whole_descriptors(body: &[u8]) -> bool
+// Every descriptor has three octets: only the last can be cut off.
+pub fn descriptors_are_whole(body: &[u8]) -> bool
     ensures { result ≡ whole_list Descriptors body.now }
 {
-    let mut at: usize = 0;
-    while at < body.len() {
-        if body[at] == 0 {
+    let (descriptors, rest) = body.as_chunks::<3>();
+    for &[branch, _, _] in descriptors {
+        if branch == 0 {
             return true;
         }
-        at += 3;
     }
-    at <= body.len()
+    rest.is_empty() || rest[0] == 0
 }
 
-// The same for containers, whose fourth octet says how many follow.
-fn whole_containers(body: &[u8]) -> bool
+// A container's fourth octet says how many follow. They are taken by strides: one that is cut off shows by the octet after it,
+// which lies past the body's end.
+pub fn containers_are_whole(body: &[u8]) -> bool
     ensures { result ≡ whole_list Containers body.now }
 {
     let mut at: usize = 0;
@@ -36,13 +34,4 @@ fn whole_containers(body: &[u8]) -> bool
         at = from + value_octets(body[at + 3]);
     }
     at <= body.len()
-}
-
-pub fn is_whole(list: ListKind, body: &[u8]) -> bool
-    ensures { result ≡ whole_list list body.now }
-{
-    match list {
-        ListKind::Descriptors => whole_descriptors(body),
-        ListKind::Containers => whole_containers(body),
-    }
 }

@@ -1,27 +1,34 @@
 // The descriptors of a Variable Request and the containers of a Variable Response.
-ghost use Rattle.std.specs.Prelude.{◌≡◌};
-ghost use Rattle.frame_body.specs.Variables.{descriptor_step, width_of, value_octets, container_step, container_value};
+ghost use Rattle.std.specs.Prelude.{◌≡◌, Some};
+ghost use Rattle.frame_tlvs.specs.Walk.{OnlyBroken};
+ghost use Rattle.frame_body.specs.Variables.{Has, as_descriptor_step, descriptor_step, width_of, value_octets, as_container_step, container_from, container_step, container_value};
 
-use crate::{ContainerStep, DescriptorStep};
+use crate::{Container, Content};
+use frame_tlvs::Placed;
+use octets::Refusal;
 
-// What stands at an octet of a list of descriptors.
+// What stands at an octet of a list of descriptors: nothing more, or a descriptor, which is one number, the branch above the
+// leaf's sixteen bits.
+//
+// # Errors
+//
+// `Refusal::Broken` of a descriptor that the body's end cuts off.
 #[tactic(auto, unfolding(crate::specs::Variables::descriptor_step))]
-pub fn descriptor_step(body: &[u8], at: usize) -> DescriptorStep
-    ensures { result ≡ descriptor_step body.now at }
+#[inline]
+pub fn descriptor_step(body: &[u8], at: usize) -> Option<Result<Placed<u32>, Refusal>>
+    ensures found { as_descriptor_step result ≡ descriptor_step body.now at }
+    ensures refusal { OnlyBroken result }
 {
-    if body.len() <= at {
-        return DescriptorStep::End;
-    }
-    if body[at] == 0 {
-        return DescriptorStep::End;
+    if body.len() <= at || body[at] == 0 {
+        return None;
     }
     if body.len() - at < 3 {
-        return DescriptorStep::Broken;
+        return Some(Err(Refusal::Broken));
     }
-    DescriptorStep::Has(
-        octets::join_three(body[at], body[at + 1], body[at + 2]),
-        at + 3,
-    )
+    Some(Ok(Placed {
+        part: u32::from_be_bytes([0, body[at], body[at + 1], body[at + 2]]),
+        end: at + 3,
+    }))
 }
 
 // The octets of a value by its width octet.
@@ -38,39 +45,63 @@ pub(crate) fn value_octets(octet: u8) -> usize
     if 128 <= octet { 0 } else { width_of(octet) }
 }
 
-// What stands at an octet of a list of containers. A descriptor and a width octet are four octets.
-pub fn container_step(body: &[u8], at: usize) -> ContainerStep
-    ensures { result ≡ container_step body.now at }
+// The container whose descriptor was found: its width octet stands after it, then its value.
+#[inline(always)]
+fn container_from(body: &[u8], descriptor: Placed<u32>) -> Result<Placed<Container>, Refusal>
+    ensures found { as_container_step (Some result) ≡ container_from body.now (Has descriptor.part descriptor.end) }
+    ensures refusal { OnlyBroken (Some result) }
 {
-    if body.len() <= at {
-        return ContainerStep::End;
+    let from = descriptor.end;
+    if body.len() <= from {
+        return Err(Refusal::Broken);
     }
-    if body[at] == 0 {
-        return ContainerStep::End;
+    let octet = body[from];
+    let width = value_octets(octet);
+    if body.len() - (from + 1) < width {
+        return Err(Refusal::Broken);
     }
-    if body.len() - at < 4 {
-        return ContainerStep::Broken;
+    let content = if 128 <= octet {
+        Content::Indication(octet)
+    } else {
+        Content::Value(width)
+    };
+    Ok(Placed {
+        part: Container {
+            descriptor: descriptor.part,
+            content,
+        },
+        end: from + 1 + width,
+    })
+}
+
+// What stands at an octet of a list of containers: nothing more, or a container. A descriptor and a width octet are four octets.
+//
+// # Errors
+//
+// `Refusal::Broken` of a container that the body's end cuts off.
+#[tactic(auto, unfolding(crate::specs::Variables::container_step))]
+#[inline]
+pub fn container_step(body: &[u8], at: usize) -> Option<Result<Placed<Container>, Refusal>>
+    ensures found { as_container_step result ≡ container_step body.now at }
+    ensures refusal { OnlyBroken result }
+{
+    match descriptor_step(body, at) {
+        None => None,
+        Some(Err(refusal)) => Some(Err(refusal)),
+        Some(Ok(descriptor)) => Some(container_from(body, descriptor)),
     }
-    let descriptor = octets::join_three(body[at], body[at + 1], body[at + 2]);
-    let octet = body[at + 3];
-    if 128 <= octet {
-        return ContainerStep::Indication(descriptor, octet, at + 4);
-    }
-    let width = width_of(octet);
-    if body.len() - (at + 4) < width {
-        return ContainerStep::Broken;
-    }
-    ContainerStep::Value(descriptor, width, at + 4 + width)
 }
 
 // The value of the container at an octet; empty where no value stands.
+#[tactic(auto, unfolding(crate::specs::Variables::container_value))]
 pub fn container_value(body: &[u8], at: usize) -> &[u8]
     ensures { result.now ≡ container_value body.now at }
 {
-    match container_step(body, at) {
-        ContainerStep::End => &body[..0],
-        ContainerStep::Broken => &body[..0],
-        ContainerStep::Value(_, width, next) => &body[next - width..next],
-        ContainerStep::Indication(_, _, _) => &body[..0],
-    }
+    let Some(Ok(container)) = container_step(body, at) else {
+        return &[];
+    };
+    let Content::Value(width) = container.part.content else {
+        return &[];
+    };
+    &body[container.end - width..container.end]
 }

@@ -2,3 +2,5 @@
 pub mod Rows
 pub mod Walks
 pub mod Marks
+pub mod Items
+pub mod MarkItems

@@ -1,6 +1,6 @@
 -- Laws of what stands at an octet of a body of TLVs.
-use Prim.Native.Nat.{ℕ, ◌+◌, ◌-◌, ◌<◌, ◌≤◌}
-use mathlib.Core.Path.{◌≡◌, refl, sym, ap, ◌∙◌}
+use Prim.Native.Nat.{ℕ, zero, suc, ◌+◌, ◌-◌, ◌<◌, ◌≤◌}
+use mathlib.Core.Path.{◌≡◌, refl, sym, ap, ◌∙◌, subst}
 use mathlib.Core.Bool.{Bool, false, cond, ◌||◌}
 use mathlib.Core.List.{List}
 use native.Mathlib.Omega.{arith}
@@ -8,13 +8,9 @@ use borrow.Author.Tests.{ltb-true, ltb-false, leb-false, eqb-true, eqb-false, eq
 use lib.ListN.{length, get_or, replicate}
 use lib.Dec.{ltb, leb, eqb}
 use Rattle.octets.specs.Octets.{total}
-use Rattle.frame_tlvs.specs.Tlvs.{tlv_at, row, information_length, event_widths, event_length, known, marked, mark_at, unknown_mark, known_mark}
-use Rattle.frame_tlvs.specs.declared.tlvs.Tlv.{Tlv}
-use Rattle.frame_tlvs.specs.declared.tlvs.Tlv.TheVariants.{End as TlvEnd, Broken as TlvBroken, At}
-use Rattle.frame_tlvs.specs.declared.Mark.{Mark}
-use Rattle.frame_tlvs.specs.declared.Mark.TheVariants.{End, Broken, Unknown, Known}
+use Rattle.frame_tlvs.specs.Tlvs.{Tlv, TlvEnd, TlvBroken, At, tlv_at, row, Mark, End, Broken, Unknown, Known, information_length, event_widths, event_length, known, marked, mark_at, unknown_mark, known_mark}
 use Rattle.frame_tlvs.specs.declared.Kind.{Kind}
-use Rattle.frame_tlvs.specs.declared.Kind.TheVariants.{Events}
+use Rattle.frame_tlvs.specs.declared.Kind.TheVariants.{Information, Events}
 use Rattle.octets.proofs.Bools.{by_cond}
 use Rattle.frame_tlvs.proofs.Rows.{four}
 
@@ -77,6 +73,12 @@ event_tabled t =
     by_cond P (eqb t 0) (λ _ h. absurd (omega arith)) (λ _.
     by_cond P (ltb 4 t) (λ _ h. absurd (omega arith)) (λ u _. record { upto = omega (arith, ltb-false); long = refl }))
 
+pub event_lies : (s : List ℕ) (at t n : ℕ) → Known t n ≡ mark_at Events s at → (0 < t) × (t ≤ 4) × (at + 2 + total (row t) ≤ length s)
+event_lies s at t n e =
+    let m : Marked Events at (length s) (Known t n) = subst (Marked Events at (length s)) (sym e) (mark_within Events s at) in
+    let k = event_tabled t m.4 in
+    (m.3, k.upto, omega (arith, m.1, m.2, k.long))
+
 -- ---- by the type first, as the code goes
 
 -- of a type that is not known only where its TLV ends is marked
@@ -130,6 +132,16 @@ module _ (kind : Kind) (s : List ℕ) (at t expected : ℕ) (inside : at < lengt
       by_cond P (eqb n expected)
       (λ same. own_length_lem (ltb-false (length s) (at + expected) fits) (eqb-true n expected same))
       (λ differs. other_length (λ _. differs)))
+
+-- the two known Information TLVs, and the others
+pub information_known : (s : List ℕ) (at t : ℕ) → at < length s → get_or s at 0 ≡ t → 0 < t → t < 3 → known_mark s at 16 ≡ mark_at Information s at
+information_known s at zero inside here least most = absurd (omega arith)
+information_known s at (suc zero) inside here least most = known_mark_lem Information s at 1 16 inside here least refl (omega arith)
+information_known s at (suc (suc zero)) inside here least most = known_mark_lem Information s at 2 16 inside here least refl (omega arith)
+information_known s at (suc (suc (suc t))) inside here least most = absurd (omega arith)
+
+pub information_unknown : (t : ℕ) → (t ≡ 1 → ⊥) → (t ≡ 2 → ⊥) → information_length t ≡ 0
+information_unknown t a b = simp (ne_eqb t 1 a, ne_eqb t 2 b)
 
 -- the lengths of the table are small, as `known_mark` asks of what stands at an octet
 pub event_sized : {at len : ℕ} → at < len → (t n : ℕ) → 0 < t → t ≤ 4 → n ≡ event_length t → (at < len) × (2 ≤ n) × (n ≤ 40)

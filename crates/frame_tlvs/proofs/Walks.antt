@@ -1,9 +1,11 @@
 -- Laws of a walk over the parts of a body: one turn of a loop that walks, why a body's length is steps enough, and that no more is
 -- skipped than there are steps.
 use Prim.Native.Nat.{ℕ, zero, suc, ◌+◌, ◌<◌, ◌≤◌}
-use mathlib.Core.Path.{◌≡◌, refl, sym, ap, subst}
+use mathlib.Core.Path.{◌≡◌, refl, sym, ap, subst, ◌∙◌}
+use mathlib.Core.List.{List, [], ◌∷◌}
 use native.Mathlib.Omega.{arith}
-use Rattle.frame_tlvs.specs.Walk.{Next, stop, broken, skip, has, Walk, ends, breaks, over, part, on_next, walk, skipped_in}
+use lib.ListN.{length}
+use Rattle.frame_tlvs.specs.Walk.{Next, stop, broken, skip, has, Walk, ends, breaks, over, part, on_next, walk, given, skipped_in}
 
 -- the octet after a part lies ahead, within the body
 abbrev pub Ahead : {P : Type 0} → ℕ → ℕ → Next P → Type 0
@@ -76,3 +78,25 @@ module _ {P : Type 0} (next : ℕ → Next P) where
   unfolding walk
   few_skips zero at = omega arith
   few_skips (suc steps) at = few_onward steps (λ n. walk next steps n) (λ n. few_skips steps n) (next at)
+
+-- What an iterator over a body has left at an octet, by what stands there. After what is broken nothing is left: it goes to the body's
+-- end.
+module _ {P A : Type 0} (next : ℕ → Next P) (len : ℕ) (leads : Leads next len) (at : ℕ) (list : Walk P → List A) where
+  pub left : (x : Next P) → next at ≡ x → list (walk next len at) ≡ list (on_next x (λ n. walk next len n))
+  left x e = ap list (unrolls next len leads at ∙ ap (λ (y : Next P). on_next y (λ n. walk next len n)) e)
+
+  pub left_broken : (r : A) → list breaks ≡ r ∷ [] → list ends ≡ [] → next at ≡ broken → list (walk next len at) ≡ r ∷ list (walk next len len)
+  left_broken r b none e = left broken e ∙ b ∙ ap (λ (l : List A). r ∷ l) (sym (rw (unrolls next len leads len, leads.end len (omega arith)) none))
+
+-- no more is given than there are steps
+module _ {P : Type 0} (next : ℕ → Next P) where
+  few_more : (steps : ℕ) (go : ℕ → Walk P) → ((n : ℕ) → length (given (go n)) ≤ steps) → (x : Next P) → length (given (on_next x go)) ≤ suc steps
+  few_more steps go h stop = omega arith
+  few_more steps go h broken = omega arith
+  few_more steps go h (skip n) = omega (arith, h n)
+  few_more steps go h (has p n) = omega (arith, h n)
+
+  pub few_given : (steps at : ℕ) → length (given (walk next steps at)) ≤ steps
+  unfolding walk
+  few_given zero at = omega arith
+  few_given (suc steps) at = few_more steps (λ n. walk next steps n) (λ n. few_given steps n) (next at)

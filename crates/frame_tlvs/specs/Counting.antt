@@ -1,12 +1,21 @@
 -- The TLV walk with the number of TLVs that it has skipped: "The TLV walk gives, beside each known TLV and at its end, the number
 -- skipped since the body's start."
-use Rattle.std.specs.Prelude.{ℕ, ◌+◌, ◌-◌, ◌^◌, List, cond, ltb}
-use Rattle.frame_tlvs.specs.Events.{event_step}
+use Rattle.std.specs.Prelude.{ℕ, ◌+◌, ◌-◌, ◌^◌, ◌≡◌, List, length, cond, ltb, Option, None, Some, Result, Ok, Err}
+use Rattle.std.specs.Iterator.{YieldsFirst}
+use Rattle.octets.specs.declared.refusal.Refusal.{Refusal}
+use Rattle.frame_tlvs.specs.Walk.{walk, items}
+use Rattle.frame_tlvs.specs.Events.{EventStep, End as StepEnd, Broken as StepBroken, Skip as StepSkip, Has as StepHas, event_step, next_of}
+use Rattle.frame_tlvs.specs.declared.Event.{Event}
 use Rattle.frame_tlvs.specs.declared.Cursor.{Cursor}
-use Rattle.frame_tlvs.specs.declared.EventStep.{EventStep}
-use Rattle.frame_tlvs.specs.declared.EventStep.TheVariants.{End as StepEnd, Broken as StepBroken, Skip as StepSkip, Has as StepHas}
-use Rattle.frame_tlvs.specs.declared.EventNext.{EventNext}
-use Rattle.frame_tlvs.specs.declared.EventNext.TheVariants.{End, Broken, Skip, Has}
+use Rattle.frame_tlvs.specs.declared.Events.{Events}
+
+-- A step with the cursor after it; at the end the number of all that were skipped. In the cursor behind an event stands the number
+-- that were skipped before it.
+pub data EventNext : Type 0 where
+  End : ℕ → EventNext
+  Broken : EventNext
+  Skip : Cursor → EventNext
+  Has : Event → Cursor → EventNext
 
 -- at the body's start nothing is skipped
 abbrev pub start : Cursor
@@ -32,3 +41,24 @@ counted_step c (StepHas e next) = Has e (behind c next)
 -- what stands at a cursor of an Event Notification after its number, with the cursor after it
 unfoldable pub event_next : List ℕ → Cursor → EventNext
 event_next s c = counted_step c (event_step s c.at)
+
+-- ---- the iterator over the events
+
+abbrev pub Item : Type 0
+Item = Result (Option Event) Refusal
+
+-- a step of the iterator, which then stands at the cursor after it
+abbrev pub as_event_next : Option Item → Cursor → EventNext
+as_event_next None c = End c.skipped
+as_event_next (Some (Err r)) c = Broken
+as_event_next (Some (Ok None)) c = Skip c
+as_event_next (Some (Ok (Some e))) c = Has e c
+
+-- what an iterator has left
+abbrev pub left : Events → List Item
+left e = items (walk (λ at. next_of (event_step e.body.now at)) (length e.body.now) e.cursor.at)
+
+-- A call of `next`: it gives the first of what was left, and then stands at the cursor of the step.
+abbrev pub Steps : Events → Option Item → Events → Type 0
+Steps e item f =
+    YieldsFirst left e item f × (f.body.now ≡ e.body.now) × (as_event_next item f.cursor ≡ event_next e.body.now e.cursor)

@@ -1,14 +1,12 @@
 -- The event TLVs of an Event Notification.
-use Rattle.std.specs.Prelude.{ℕ, ◌+◌, List, [], ◌∷◌, Bool, ◌||◌, eqb, length, get_or}
+use Rattle.std.specs.Prelude.{ℕ, ◌+◌, List, Bool, ◌||◌, eqb, length, get_or, Option, None, Some, Result, Ok, Err}
 use Rattle.octets.specs.Octets.{fields_at}
+use Rattle.octets.specs.declared.refusal.Refusal.{Refusal}
 use Rattle.frame_tlvs.specs.Walk.{Next, stop, broken, skip, has, Walk, walk}
-use Rattle.frame_tlvs.specs.Tlvs.{row, mark_at}
-use Rattle.frame_tlvs.specs.declared.Mark.{Mark}
-use Rattle.frame_tlvs.specs.declared.Mark.TheVariants.{End as MarkEnd, Broken as MarkBroken, Unknown, Known}
+use Rattle.frame_tlvs.specs.Tlvs.{row, Mark, End as MarkEnd, Broken as MarkBroken, Unknown, Known, mark_at}
 use Rattle.frame_tlvs.specs.declared.Kind.TheVariants.{Events}
 use Rattle.frame_tlvs.specs.declared.Event.{Event}
-use Rattle.frame_tlvs.specs.declared.EventStep.{EventStep}
-use Rattle.frame_tlvs.specs.declared.EventStep.TheVariants.{End, Broken, Skip, Has}
+use Rattle.frame_tlvs.specs.declared.Placed.{Placed}
 
 -- an event of a type and its six values, in the order of the table
 abbrev pub event_of : ℕ → List ℕ → Event
@@ -27,11 +25,22 @@ event_of t values =
 unfoldable pub event_at : List ℕ → ℕ → ℕ → Event
 event_at s at t = event_of t (fields_at (row t) s (at + 2))
 
--- How `event_at` comes to it (`field_at` in proofs/Rows.antt): where each of the fields begins that stand one after another from
--- octet `at`.
-abbrev pub starts_from : ℕ → List ℕ → List ℕ
-starts_from at [] = []
-starts_from at (w ∷ ws) = at ∷ starts_from (at + w) ws
+-- What stands at an octet of an Event Notification, with the octet after it; an unknown TLV is to be skipped.
+pub data EventStep : Type 0 where
+  End : EventStep
+  Broken : EventStep
+  Skip : ℕ → EventStep
+  Has : Event → ℕ → EventStep
+
+abbrev pub placed_event : Option Event → ℕ → EventStep
+placed_event None next = Skip next
+placed_event (Some e) next = Has e next
+
+-- the step that the code takes
+abbrev pub as_event_step : Option (Result (Placed (Option Event)) Refusal) → EventStep
+as_event_step None = End
+as_event_step (Some (Err r)) = Broken
+as_event_step (Some (Ok p)) = placed_event p.part p.end
 
 abbrev pub step_of : List ℕ → ℕ → Mark → EventStep
 step_of s at MarkEnd = End

@@ -1,12 +1,40 @@
 -- The TLVs of Information and Event Notification bodies.
-use Rattle.std.specs.Prelude.{ℕ, zero, suc, ◌+◌, ◌-◌, List, [], ◌∷◌, cond, ◌||◌, length, get_or, replicate, ltb, leb, eqb}
+use Rattle.std.specs.Prelude.{ℕ, zero, suc, ◌+◌, ◌-◌, List, [], ◌∷◌, cond, ◌||◌, length, get_or, replicate, ltb, leb, eqb, Option, None, Some, Result, Ok, Err}
 use Rattle.octets.specs.Octets.{total}
-use Rattle.frame_tlvs.specs.declared.tlvs.Tlv.{Tlv}
-use Rattle.frame_tlvs.specs.declared.tlvs.Tlv.TheVariants.{End as TlvEnd, Broken as TlvBroken, At}
-use Rattle.frame_tlvs.specs.declared.Mark.{Mark}
-use Rattle.frame_tlvs.specs.declared.Mark.TheVariants.{End, Broken, Unknown, Known}
+use Rattle.octets.specs.declared.refusal.Refusal.{Refusal}
+use Rattle.frame_tlvs.specs.declared.tlvs.Tlv.{Tlv as FoundTlv}
+use Rattle.frame_tlvs.specs.declared.Placed.{Placed}
 use Rattle.frame_tlvs.specs.declared.Kind.{Kind}
 use Rattle.frame_tlvs.specs.declared.Kind.TheVariants.{Information, Events}
+
+-- The end of the walk, a broken TLV, or one with its type, its length and the octet after it.
+pub data Tlv : Type 0 where
+  TlvEnd : Tlv
+  TlvBroken : Tlv
+  At : ℕ → ℕ → ℕ → Tlv
+
+-- the TLV that the code finds
+abbrev pub as_tlv : Option (Result FoundTlv Refusal) → Tlv
+as_tlv None = TlvEnd
+as_tlv (Some (Err r)) = TlvBroken
+as_tlv (Some (Ok t)) = At t.kind t.length t.end
+
+-- What stands at an octet, as a kind of body sees it: an unknown TLV, or a known one with its type; with the octet after it.
+pub data Mark : Type 0 where
+  End : Mark
+  Broken : Mark
+  Unknown : ℕ → Mark
+  Known : ℕ → ℕ → Mark
+
+abbrev pub placed_mark : Option ℕ → ℕ → Mark
+placed_mark None next = Unknown next
+placed_mark (Some t) next = Known t next
+
+-- the mark that the code finds
+abbrev pub as_mark : Option (Result (Placed (Option ℕ)) Refusal) → Mark
+as_mark None = End
+as_mark (Some (Err r)) = Broken
+as_mark (Some (Ok m)) = placed_mark m.part m.end
 
 -- "Length counts the type and length octets. Type 00 ends the walk, even as the last octet, and the rest is ignored; the
 -- frame's end ends it too. Broken: no length octet, length below 2, running past the frame".

@@ -1,5 +1,7 @@
 -- A walk over the parts of a body, whatever the parts are.
-use Rattle.std.specs.Prelude.{ℕ, zero, suc, ◌+◌, List, [], ◌∷◌, Bool, true, false}
+use Rattle.std.specs.Prelude.{ℕ, zero, suc, ◌+◌, ◌≡◌, List, [], ◌∷◌, Bool, true, false, Option, None, Some, Result, Ok, Err}
+use Rattle.octets.specs.declared.refusal.Refusal.{Refusal}
+use Rattle.octets.specs.declared.refusal.Refusal.TheVariants.{Broken}
 
 -- What stands at an octet: nothing more, something broken, something to be skipped, or a part; with the octet after it.
 pub data Next (P : Type 0) : Type 0 where
@@ -7,6 +9,12 @@ pub data Next (P : Type 0) : Type 0 where
   broken : Next P
   skip : ℕ → Next P
   has : P → ℕ → Next P
+
+-- A step of the code is nothing, a part, or the refusal of what is broken, and no other refusal.
+abbrev pub OnlyBroken : {A : Type 0} → Option (Result A Refusal) → Type 0
+OnlyBroken None = Unit
+OnlyBroken (Some (Ok a)) = Unit
+OnlyBroken (Some (Err r)) = r ≡ Broken
 
 -- A walk: what was met and what was passed over, in order, until it ends or breaks off.
 pub data Walk (P : Type 0) : Type 0 where
@@ -42,6 +50,21 @@ listed ends = parts []
 listed breaks = refused 6
 listed (over w) = listed w
 listed (part p w) = also p (listed w)
+
+-- What an iterator over a body gives: each part, nothing in the place of what is passed over, and as the last the refusal of what is
+-- broken.
+abbrev pub items : {P : Type 0} → Walk P → List (Result (Option P) Refusal)
+items ends = []
+items breaks = Err Broken ∷ []
+items (over w) = Ok None ∷ items w
+items (part p w) = Ok (Some p) ∷ items w
+
+-- the same of a walk that passes over nothing
+abbrev pub given : {P : Type 0} → Walk P → List (Result P Refusal)
+given ends = []
+given breaks = Err Broken ∷ []
+given (over w) = given w
+given (part p w) = Ok p ∷ given w
 
 -- what a caller has met who took the steps until the walk ended or broke off
 abbrev pub met : {P : Type 0} → Walk P → List P

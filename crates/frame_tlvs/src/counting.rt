@@ -1,9 +1,11 @@
 // The walk over the events of a notification with the number of TLVs that it has skipped.
 ghost use Rattle.std.specs.Prelude.{◌≡◌};
-ghost use Rattle.frame_tlvs.specs.Counting.{start, more, event_next};
+ghost use Rattle.std.specs.Iterator.{item_count};
+ghost use Rattle.frame_tlvs.specs.Counting.{start, more, left, Steps};
 
 use crate::notifications::event_step;
-use crate::{Cursor, EventNext, EventStep};
+use crate::{Cursor, Event, Events};
+use octets::Refusal;
 
 // Before the first TLV of a body.
 pub fn start() -> Cursor
@@ -16,22 +18,54 @@ pub fn start() -> Cursor
 pub fn more(n: usize) -> usize
     ensures { result ≡ more n }
 {
-    if n < 0xffff_ffff_ffff_ffff { n + 1 } else { n }
+    n.saturating_add(1)
 }
 
-// What stands at a cursor of an Event Notification after its number, with the cursor after it.
-#[tactic(auto, unfolding(crate::specs::Counting::event_next))]
-pub fn event_next(body: &[u8], cursor: Cursor) -> EventNext
-    ensures { result ≡ event_next body.now cursor }
-{
-    let skipped = cursor.skipped;
-    match event_step(body, cursor.at) {
-        EventStep::End => EventNext::End(skipped),
-        EventStep::Broken => EventNext::Broken,
-        EventStep::Skip(next) => EventNext::Skip(Cursor {
-            at: next,
-            skipped: more(skipped),
-        }),
-        EventStep::Has(event, next) => EventNext::Has(event, Cursor { at: next, skipped }),
+impl<'a> Events<'a> {
+    // The events of a notification, whose octets after its number are these.
+    pub fn new(body: &'a [u8]) -> Events<'a>
+        ensures { (result.body.now ≡ body.now) × (result.cursor ≡ start) }
+    {
+        Events::from_cursor(body, start())
+    }
+
+    // The events from a cursor on.
+    pub fn from_cursor(body: &'a [u8], cursor: Cursor) -> Events<'a>
+        ensures { (result.body.now ≡ body.now) × (result.cursor ≡ cursor) }
+    {
+        Events { body, cursor }
+    }
+
+    // Where the walk stands: at the octet after what `next` gave last, with the number of TLVs that were skipped before it.
+    pub fn cursor(&self) -> Cursor
+        ensures { result ≡ self.now.cursor }
+    {
+        self.cursor
+    }
+}
+
+impl<'a> Iterator for Events<'a> {
+    type Item = Result<Option<Event>, Refusal>;
+
+    ghost next_gives = { Steps };
+
+    ghost remaining = { item_count left };
+
+    fn next(&mut self) -> Option<Result<Option<Event>, Refusal>> {
+        let cursor = &mut self.cursor;
+        match event_step(self.body, cursor.at) {
+            None => None,
+            Some(Err(refusal)) => {
+                cursor.at = self.body.len();
+                Some(Err(refusal))
+            }
+            Some(Ok(step)) => {
+                cursor.at = step.end;
+                if step.part.is_none() {
+                    cursor.skipped = more(cursor.skipped);
+                }
+                Some(Ok(step.part))
+            }
+        }
     }
 }

@@ -1,12 +1,14 @@
 // The event TLVs of an Event Notification.
-ghost use Rattle.std.specs.Prelude.{◌≡◌, true, ◌+◌, ◌^◌, ◌≤◌, ◌<◌, length, get_or};
-ghost use Rattle.octets.specs.Octets.{num, total};
-ghost use Rattle.frame_tlvs.specs.Events.{is_word, starts_from, event_at, event_step};
+ghost use Rattle.std.specs.Prelude.{◌≡◌, ◌+◌, ◌≤◌, ◌<◌, length};
+ghost use Rattle.octets.specs.Octets.{total};
+ghost use Rattle.frame_tlvs.specs.Walk.{OnlyBroken};
+ghost use Rattle.frame_tlvs.specs.Events.{event_at, as_event_step, event_step};
 ghost use Rattle.frame_tlvs.specs.Tlvs.{row, event_widths, event_length};
 
 use crate::numbers::number;
 use crate::tlvs::mark_at;
-use crate::{Event, EventStep, Kind, Mark};
+use crate::{Event, Kind, Placed};
+use octets::Refusal;
 
 // The width in octets of each field, a row for each type from 1 on: timestamp, window, threshold, errors, error
 // total, event total. The reader and the writers go by it.
@@ -47,103 +49,35 @@ pub fn event_length(t: u8) -> usize
     }
 }
 
-// Where the six fields begin that stand one after another from an octet, each in its width.
-fn starts_from(at: usize, widths: [usize; 6]) -> [usize; 6]
-    requires { (length widths ≡ 6) × (at + total widths < 2 ^ 64) }
-    ensures { result ≡ starts_from at widths }
+// The event TLV of type T at an octet. Its row of the table stands at a constant place in each copy, so that every field is one
+// load at a constant distance: a row that is chosen by a variable would be stored first, and each width tested. The event total
+// is taken before the others: as the last, being as wide in every row, it is taken at one place for all four types and octet by
+// octet.
+#[tactic(auto, unfolding(crate::specs::Tlvs::row))]
+fn event_of_type<const T: usize>(body: &[u8], at: usize) -> Event
+    requires { (0 < T) × (T ≤ 4) × (at + 2 + total (row T) ≤ length body.now) }
+    ensures { result ≡ event_at body.now at T }
 {
-    let window = at + widths[0];
-    let threshold = window + widths[1];
-    let errors = threshold + widths[2];
-    let error_total = errors + widths[3];
-    let event_total = error_total + widths[4];
-    [at, window, threshold, errors, error_total, event_total]
-}
-
-// One of the six fields, where it begins and in its width.
-fn field(body: &[u8], starts: [usize; 6], widths: [usize; 6], index: usize) -> u64
-    requires { (index < 6) × (is_word (get_or widths index 0) ≡ true) × (get_or starts index 0 + get_or widths index 0 ≤ length body.now) }
-    ensures { result ≡ num (get_or widths index 0) body.now (get_or starts index 0) }
-{
-    number(body, starts[index], widths[index])
-}
-
-// The event TLV of type 1 at an octet; below, of types 2, 3 and 4. Each has its row of the table at a constant place, so that
-// every field is one load at a constant distance: a row that is chosen by a variable would be stored first, and each width
-// tested. The event total is taken before the others: as the last, being as wide in every row, it is taken at one place for all
-// four types and octet by octet.
-#[tactic(auto, unfolding(crate::specs::Tlvs::row, crate::specs::Events::event_at))]
-fn symbol_period_at(body: &[u8], at: usize) -> Event
-    requires { at + 2 + total (row 1) ≤ length body.now }
-    ensures { result ≡ event_at body.now at 1 }
-{
-    let widths = WIDTHS[0];
-    let starts = starts_from(at + 2, widths);
-    let event_total = field(body, starts, widths, 5);
-    Event {
-        kind: 1,
-        timestamp: field(body, starts, widths, 0),
-        window: field(body, starts, widths, 1),
-        threshold: field(body, starts, widths, 2),
-        errors: field(body, starts, widths, 3),
-        error_total: field(body, starts, widths, 4),
+    let [
+        timestamp,
+        window,
+        threshold,
+        errors,
+        error_total,
         event_total,
-    }
-}
-
-#[tactic(auto, unfolding(crate::specs::Tlvs::row, crate::specs::Events::event_at))]
-fn frame_event_at(body: &[u8], at: usize) -> Event
-    requires { at + 2 + total (row 2) ≤ length body.now }
-    ensures { result ≡ event_at body.now at 2 }
-{
-    let widths = WIDTHS[1];
-    let starts = starts_from(at + 2, widths);
-    let event_total = field(body, starts, widths, 5);
+    ] = WIDTHS[T - 1];
+    let window_at = at + 2 + timestamp;
+    let threshold_at = window_at + window;
+    let errors_at = threshold_at + threshold;
+    let error_total_at = errors_at + errors;
+    let event_total = number(body, error_total_at + error_total, event_total);
     Event {
-        kind: 2,
-        timestamp: field(body, starts, widths, 0),
-        window: field(body, starts, widths, 1),
-        threshold: field(body, starts, widths, 2),
-        errors: field(body, starts, widths, 3),
-        error_total: field(body, starts, widths, 4),
-        event_total,
-    }
-}
-
-#[tactic(auto, unfolding(crate::specs::Tlvs::row, crate::specs::Events::event_at))]
-fn frame_period_at(body: &[u8], at: usize) -> Event
-    requires { at + 2 + total (row 3) ≤ length body.now }
-    ensures { result ≡ event_at body.now at 3 }
-{
-    let widths = WIDTHS[2];
-    let starts = starts_from(at + 2, widths);
-    let event_total = field(body, starts, widths, 5);
-    Event {
-        kind: 3,
-        timestamp: field(body, starts, widths, 0),
-        window: field(body, starts, widths, 1),
-        threshold: field(body, starts, widths, 2),
-        errors: field(body, starts, widths, 3),
-        error_total: field(body, starts, widths, 4),
-        event_total,
-    }
-}
-
-#[tactic(auto, unfolding(crate::specs::Tlvs::row, crate::specs::Events::event_at))]
-fn frame_seconds_at(body: &[u8], at: usize) -> Event
-    requires { at + 2 + total (row 4) ≤ length body.now }
-    ensures { result ≡ event_at body.now at 4 }
-{
-    let widths = WIDTHS[3];
-    let starts = starts_from(at + 2, widths);
-    let event_total = field(body, starts, widths, 5);
-    Event {
-        kind: 4,
-        timestamp: field(body, starts, widths, 0),
-        window: field(body, starts, widths, 1),
-        threshold: field(body, starts, widths, 2),
-        errors: field(body, starts, widths, 3),
-        error_total: field(body, starts, widths, 4),
+        kind: T as u8,
+        timestamp: number(body, at + 2, timestamp),
+        window: number(body, window_at, window),
+        threshold: number(body, threshold_at, threshold),
+        errors: number(body, errors_at, errors),
+        error_total: number(body, error_total_at, error_total),
         event_total,
     }
 }
@@ -154,21 +88,33 @@ fn event_at(body: &[u8], at: usize, t: u8) -> Event
     ensures { result ≡ event_at body.now at t }
 {
     match t {
-        1 => symbol_period_at(body, at),
-        2 => frame_event_at(body, at),
-        3 => frame_period_at(body, at),
-        _ => frame_seconds_at(body, at),
+        1 => event_of_type::<1>(body, at),
+        2 => event_of_type::<2>(body, at),
+        3 => event_of_type::<3>(body, at),
+        _ => event_of_type::<4>(body, at),
     }
 }
 
-// What stands at an octet of an Event Notification after its number.
-pub fn event_step(body: &[u8], at: usize) -> EventStep
-    ensures { result ≡ event_step body.now at }
+// What stands at an octet of an Event Notification after its number: nothing more, an event, or `None` for an unknown TLV, which
+// is to be skipped.
+//
+// # Errors
+//
+// `Refusal::Broken` of a TLV that is cut off, has a length below 2, or is an event of another length than its type's.
+#[tactic(auto, unfolding(crate::specs::Events::event_step))]
+pub fn event_step(body: &[u8], at: usize) -> Option<Result<Placed<Option<Event>>, Refusal>>
+    ensures found { as_event_step result ≡ event_step body.now at }
+    ensures refusal { OnlyBroken result }
 {
     match mark_at(Kind::Events, body, at) {
-        Mark::End => EventStep::End,
-        Mark::Broken => EventStep::Broken,
-        Mark::Unknown(next) => EventStep::Skip(next),
-        Mark::Known(t, next) => EventStep::Has(event_at(body, at, t), next),
+        None => None,
+        Some(Err(refusal)) => Some(Err(refusal)),
+        Some(Ok(mark)) => Some(Ok(Placed {
+            part: match mark.part {
+                None => None,
+                Some(t) => Some(event_at(body, at, t)),
+            },
+            end: mark.end,
+        })),
     }
 }

@@ -1,15 +1,16 @@
 -- Laws of the answers to descriptors, and of the room that they take.
-use Prim.Native.Nat.{ℕ, ◌+◌, ◌<◌, ◌≤◌}
+use Prim.Native.Nat.{ℕ, ◌+◌, ◌-◌, ◌<◌, ◌≤◌}
+use Rattle.std.proofs.Common.{Some, None}
 use mathlib.Core.Path.{◌≡◌, refl}
 use mathlib.Core.List.{List, [], ◌∷◌, ◌++◌}
 use mathlib.Core.Bool.{Bool, true, false, cond}
 use native.Mathlib.Omega.{arith}
-use borrow.Author.Tests.{leb-true, lt-leb, ne_eqb}
+use borrow.Author.Tests.{leb-true, lt-leb, eqb-true, eqb-false, ne_eqb}
 use lib.Dec.{leb, eqb}
 use Rattle.octets.proofs.Bools.{by_cond}
 use Rattle.frame_body.specs.Variables.{Container, value, indication}
 use Rattle.frame_variables.specs.Attributes.{Attribute, attributes_from, formed_attributes}
-use Rattle.frame_variables.specs.Answers.{lookup, container_length, containers_length, answers, room_within, place_of, answer_octets, left_after, measured_answers}
+use Rattle.frame_variables.specs.Answers.{lookup, container_length, containers_length, answers, room_within, place_of, answer_octets, some_octets, left_after, measured_answers}
 use Rattle.frame_variables.proofs.Placing.{place_answers, placed_length}
 
 -- a frame has room for 1,496 octets at most
@@ -34,6 +35,37 @@ measured_within room ns (d ∷ ds) =
 pub no_octets : (left : ℕ) (ns : List ℕ) (d : ℕ) → left < 4 → answer_octets left ns d ≡ 0
 unfolding answer_octets
 no_octets left ns d h = rw (lt-leb (4 + (place_of ns d).width) left (omega arith))
+
+-- what some octets say of their number
+pub none_octets : (n : ℕ) → None ≡ some_octets n → n ≡ 0
+none_octets n = by (eqb n 0) refl
+  where
+    by : (b : Bool) → eqb n 0 ≡ b → None ≡ cond b None (Some n) → n ≡ 0
+    by true t e = eqb-true n 0 t
+    by false f e = let z : ◌≡◌ {A = ℕ} 0 1 = cc in absurd (omega arith)
+
+pub octets_are : (n k : ℕ) → Some k ≡ some_octets n → (k ≡ n) × (n ≡ 0 → ⊥)
+octets_are n k = by (eqb n 0) refl
+  where
+    by : (b : Bool) → eqb n 0 ≡ b → Some k ≡ cond b None (Some n) → (k ≡ n) × (n ≡ 0 → ⊥)
+    by true t e = let z : ◌≡◌ {A = ℕ} 0 1 = cc in absurd (omega arith)
+    by false f e = (cc, eqb-false n 0 f)
+
+-- nothing fits into nothing: after an answer that does not fit there is none
+pub measured_none : (ns ds : List ℕ) → measured_answers 0 ns ds ≡ 0
+measured_none ns [] = refl
+measured_none ns (d ∷ ds) = rw (no_octets 0 ns d (omega arith)) (omega (arith, measured_none ns ds))
+
+-- a turn of a loop over descriptors: where the next answer does not fit, and where it does
+pub measured_off : (left : ℕ) (ns ds : List ℕ) (d : ℕ) → None ≡ some_octets (answer_octets left ns d) → measured_answers left ns (d ∷ ds) ≡ 0
+measured_off left ns ds d e = rw (none_octets (answer_octets left ns d) e) (omega (arith, measured_none ns ds))
+
+pub measured_next : (left k : ℕ) (ns ds : List ℕ) (d : ℕ) → Some k ≡ some_octets (answer_octets left ns d)
+    → (k ≤ left) × (measured_answers left ns (d ∷ ds) ≡ k + measured_answers (left - k) ns ds)
+measured_next left k ns ds d e =
+    let n = answer_octets left ns d in
+    let a = octets_are n k e in
+    (omega (arith, a.0, answer_within left ns d), rw (a.0, ne_eqb n 0 a.1))
 
 -- a container has 4 octets at least
 container_least : (c : Container) → 4 ≤ container_length c

@@ -1,10 +1,12 @@
 -- What formed attributes are, and where the value of a descriptor is found among them.
-use Prim.Native.Nat.{ℕ, ◌+◌, ◌≤◌}
-use mathlib.Core.Path.{◌≡◌, refl, ap, ◌∙◌}
+use Prim.Native.Nat.{ℕ, ◌+◌, ◌≤◌, min}
+use mathlib.Core.Path.{◌≡◌, refl, sym, ap, ◌∙◌}
 use mathlib.Core.List.{List, [], ◌∷◌}
-use mathlib.Core.Bool.{Bool, true, false, cond}
+use mathlib.Core.Bool.{Bool, true, false, not, cond}
+use Rattle.std.proofs.Common.{Some, None}
+use Rattle.std.specs.Bool.{then_some}
 use native.Mathlib.Omega.{arith}
-use borrow.Author.Tests.{leb-true, eqb-true, ne_eqb}
+use borrow.Author.Tests.{leb-true, leb-false, eqb-true, ne_eqb}
 use lib.Dec.{leb, eqb}
 use lib.ListN.{length, take, drop, length-take, length-drop}
 use lib.Seq.{take_all, drop-drop}
@@ -14,7 +16,7 @@ use Rattle.frame_variables.specs.declared.Place.{Place}
 use Rattle.octets.specs.Tests.{every}
 use Rattle.frame_variables.specs.Descriptors.{plain_descriptor, plain_descriptors}
 use Rattle.frame_variables.specs.Attributes.{attributes_from, formed_pairs, distinct, widths, formed_attributes}
-use Rattle.frame_variables.specs.Answers.{not_supported, lookup, container_length, most_asked, formed_answers, place_from, place_of}
+use Rattle.frame_variables.specs.Answers.{not_supported, lookup, container_length, most_asked, formed_answers, place_from, place_of, some_place, place_in}
 
 -- what it says that attributes are in range
 pub record InRange (ns vs : List ℕ) : Type 0 where
@@ -71,9 +73,39 @@ placed_from_lem vs d (x ∷ w ∷ ns) at p e =
     by l m r true = record { within = omega arith; short = m; answered = rw (ne_eqb w 0 (λ z. omega arith)) }
     by l m r false = r
 
+-- as many attributes are taken as there are, or 64
+pub taken : (most : ℕ) (ns : List ℕ) → most ≡ min (length ns) 128 → take most ns ≡ take 128 ns
+taken most ns e = whether (leb (length ns) 128)
+    (λ t. let h : length ns ≤ 128 = leb-true (length ns) 128 t in rw (take_all 128 ns h, take_all most ns (omega arith)))
+    (λ f. let h : most ≡ 128 = omega (arith, leb-false (length ns) 128 f) in rw h)
+
 -- what the code looks up is what answers the descriptor
 pub place_answers : (ns vs : List ℕ) → formed_attributes ns vs ≡ true → (d : ℕ) → Placed vs d (place_of ns d) (lookup (attributes_from ns vs) d)
 unfolding place_of
 place_answers ns vs h d =
     let f = held_parts ns vs h in
     rw (take_all 128 ns f.few) (placed_from_lem vs d ns 0 f.plain (omega (arith, f.just)))
+
+-- the place that the code gives, or one of no octets, answers as well
+pub some_answers : {vs : List ℕ} {d : ℕ} {place : Place} {container : Container} → Placed vs d place container → Placed vs d (place_in (some_place place)) container
+some_answers {vs} {d} {place} {container} p = by (eqb place.width 0) refl
+  where
+    by : (b : Bool) → eqb place.width 0 ≡ b → Placed vs d (place_in (cond b None (Some place))) container
+    by true t = record { within = omega arith; short = omega arith; answered = p.answered ∙ rw t refl }
+    by false f = p
+
+-- and is as wide
+pub some_width : (place : Place) → (place_in (some_place place)).width ≡ place.width
+some_width place = by (eqb place.width 0) refl
+  where
+    by : (b : Bool) → eqb place.width 0 ≡ b → (place_in (cond b None (Some place))).width ≡ place.width
+    by true t = sym (eqb-true place.width 0 t)
+    by false f = refl
+
+-- how the code comes to it
+pub then_some_place : (place : Place) → then_some (not (eqb place.width 0)) place ≡ some_place place
+then_some_place place = by (eqb place.width 0)
+  where
+    by : (b : Bool) → then_some (not b) place ≡ cond b None (Some place)
+    by true = refl
+    by false = refl

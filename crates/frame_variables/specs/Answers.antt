@@ -1,5 +1,5 @@
 -- What answers descriptors: "one container per descriptor in the order asked".
-use Rattle.std.specs.Prelude.{ℕ, ◌+◌, ◌-◌, ◌*◌, ◌%◌, min, List, [], ◌∷◌, Bool, cond, ◌&&◌, length, take, leb, eqb}
+use Rattle.std.specs.Prelude.{ℕ, ◌+◌, ◌-◌, ◌*◌, ◌%◌, min, List, [], ◌∷◌, Bool, cond, ◌&&◌, length, take, leb, eqb, Option, None, Some}
 use Rattle.octets.specs.Layout.{longest_frame, body_start}
 use Rattle.frame_body.specs.Variables.{Container, value, indication}
 use Rattle.frame_variables.specs.Descriptors.{plain_descriptors}
@@ -66,12 +66,25 @@ place_from at (x ∷ w ∷ ns) d = cond (eqb x d) (record { at = at; width = w }
 unfoldable pub place_of : List ℕ → ℕ → Place
 place_of ns d = place_from 0 (take (2 * most_attributes) ns) d
 
+-- a place, and none where its width says that no value is held
+abbrev pub some_place : Place → Option Place
+some_place place = cond (eqb place.width 0) None (Some place)
+
+-- the place of the octets that answer: of no octets where there is none
+abbrev pub place_in : Option Place → Place
+place_in None = record { at = 0; width = 0 }
+place_in (Some place) = place
+
 -- the octets of an answer, by the width of its value, where they fit into the room that is left; else 0
 abbrev pub fitted : ℕ → ℕ → ℕ
 fitted left width = cond (leb (4 + width) left) (4 + width) 0
 
 unfoldable pub answer_octets : ℕ → List ℕ → ℕ → ℕ
 answer_octets left ns d = fitted left (place_of ns d).width
+
+-- so many octets, and none where it says 0
+abbrev pub some_octets : ℕ → Option ℕ
+some_octets n = cond (eqb n 0) None (Some n)
 
 -- what is left after an answer's octets: nothing where it did not fit, since nothing fits into nothing
 abbrev pub left_after : ℕ → ℕ → ℕ

@@ -1,32 +1,32 @@
 // What answers a descriptor: where its value is found, how many octets the container has, and what of the room it leaves.
 ghost use Rattle.std.specs.Prelude.{◌≡◌};
-ghost use Rattle.frame_variables.specs.Answers.{room_within, formed_answers, width_octet, place_of, fitted, answer_octets, left_after, measured_answers};
+ghost use Rattle.frame_variables.specs.Answers.{room_within, formed_answers, width_octet, place_of, some_place, some_octets, fitted, answer_octets, measured_answers};
 
 use crate::attributes::formed_attributes;
 use crate::descriptors::plain_descriptors;
 use crate::{MOST_ASKED, MOST_ATTRIBUTES, NOT_SUPPORTED, Place};
-use octets::{BODY_START, LONGEST_FRAME, smaller};
+use octets::{BODY_START, LONGEST_FRAME};
 
 // The octets of the FCS, which a maximum size counts.
 const FCS: usize = 4;
+
+// The octets of a container without its value: a descriptor's three and the width octet.
+const DESCRIBED: usize = 4;
 
 // Whether what is asked and what is held are in range.
 #[tactic(auto, unfolding(crate::specs::Answers::formed_answers))]
 pub fn formed_answers(attributes: &[u32], values: &[u8], descriptors: &[u32]) -> bool
     ensures { result ≡ formed_answers attributes.now values.now descriptors.now }
 {
-    if plain_descriptors(MOST_ASKED, descriptors) {
-        return formed_attributes(attributes, values);
-    }
-    false
+    plain_descriptors(MOST_ASKED, descriptors) && formed_attributes(attributes, values)
 }
 
 // The room for containers in a frame within a maximum size, which counts header and FCS.
 pub fn room_within(size: usize) -> usize
     ensures { result ≡ room_within size }
 {
-    let most = smaller(size, LONGEST_FRAME + FCS);
-    most - smaller(most, BODY_START + FCS)
+    size.min(LONGEST_FRAME + FCS)
+        .saturating_sub(BODY_START + FCS)
 }
 
 // The width octet of an answer: 128 is written 00, and a width of 0 says that no value is held.
@@ -40,72 +40,57 @@ pub fn width_octet(width: usize) -> u8
     }
 }
 
-// Where the value of a descriptor's attribute stands.
-pub fn place_of(attributes: &[u32], descriptor: u32) -> Place
-    ensures { result ≡ place_of attributes.now descriptor }
+// Where the value of a descriptor's attribute stands, if one is held: no value has a width of 0.
+pub fn place_of(attributes: &[u32], descriptor: u32) -> Option<Place>
+    ensures { result ≡ some_place (place_of attributes.now descriptor) }
 {
-    let count = smaller(attributes.len() / 2, MOST_ATTRIBUTES);
-    let mut at: usize = 0;
-    let mut i: usize = 0;
-    while i < count {
-        let width = attributes[2 * i + 1] as usize;
-        if attributes[2 * i] == descriptor {
-            return Place {
-                at: at,
-                width: width,
-            };
+    let most = attributes.len().min(2 * MOST_ATTRIBUTES);
+    let (pairs, _) = attributes[..most].as_chunks::<2>();
+    let mut at = 0;
+    for &[held, width] in pairs {
+        let width = width as usize;
+        if held == descriptor {
+            return (width != 0).then_some(Place { at, width });
         }
         at += width;
-        i += 1;
     }
-    Place { at: at, width: 0 }
+    None
 }
 
-// The octets of an answer by its width where they fit into what is left of the room; else 0.
-pub fn fitted(left: usize, width: usize) -> usize
-    ensures { result ≡ fitted left width }
+// The octets of an answer by its width, if they fit into what is left of the room.
+pub fn fitted(left: usize, width: usize) -> Option<usize>
+    ensures { result ≡ some_octets (fitted left width) }
 {
-    if left < 4 {
-        return 0;
-    }
-    if left - 4 < width {
-        return 0;
-    }
-    4 + width
+    let octets = width.checked_add(DESCRIBED)?;
+    (octets <= left).then_some(octets)
 }
 
-// The octets of the answer to a descriptor where they fit; else 0. Nothing is searched for where no container fits.
+// The octets of the answer to a descriptor, if they fit. Nothing is searched for where no container fits.
 #[tactic(auto, unfolding(crate::specs::Answers::answer_octets))]
-fn answer_octets(left: usize, attributes: &[u32], descriptor: u32) -> usize
-    ensures { result ≡ answer_octets left attributes.now descriptor }
+fn answer_octets(left: usize, attributes: &[u32], descriptor: u32) -> Option<usize>
+    ensures { result ≡ some_octets (answer_octets left attributes.now descriptor) }
 {
-    if left < 4 {
-        return 0;
+    if left < DESCRIBED {
+        return None;
     }
-    let place = place_of(attributes, descriptor);
-    fitted(left, place.width)
+    fitted(
+        left,
+        place_of(attributes, descriptor).unwrap_or_default().width,
+    )
 }
 
-// What an answer's octets leave of the room: nothing where it did not fit.
-pub fn left_after(left: usize, octets: usize) -> usize
-    ensures { result ≡ left_after left octets }
-{
-    let rest = left - smaller(octets, left);
-    if octets == 0 { 0 } else { rest }
-}
-
-// The octets of the answers to descriptors, as many as fit.
+// The octets of the answers to descriptors, as many as fit: from the first that does not, the rest is left off.
 pub fn measured_answers(room: usize, attributes: &[u32], descriptors: &[u32]) -> usize
     ensures { result ≡ measured_answers room attributes.now descriptors.now }
 {
     let mut left = room;
-    let mut sum: usize = 0;
-    let mut i: usize = 0;
-    while i < descriptors.len() {
-        let octets = answer_octets(left, attributes, descriptors[i]);
+    let mut sum = 0;
+    for descriptor in descriptors {
+        let Some(octets) = answer_octets(left, attributes, *descriptor) else {
+            break;
+        };
         sum += octets;
-        left = left_after(left, octets);
-        i += 1;
+        left -= octets;
     }
     sum
 }

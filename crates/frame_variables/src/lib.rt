@@ -8,9 +8,7 @@ mod answers;
 mod attributes;
 mod descriptors;
 
-pub use answers::{
-    fitted, formed_answers, left_after, measured_answers, place_of, room_within, width_octet,
-};
+pub use answers::{fitted, formed_answers, measured_answers, place_of, room_within, width_octet};
 pub use descriptors::plain_descriptors;
 
 // The most attributes that a box holds, and the most octets of a value.
@@ -24,8 +22,8 @@ pub const MOST_ASKED: usize = 498;
 // The width octet of an attribute that is not held: bit 7, and 001's Variable Indication 0x21.
 pub const NOT_SUPPORTED: u8 = 0xa1;
 
-// Where a descriptor's value stands among the values of the attributes, and its width; 0 where no such attribute is held.
-#[derive(Drop)]
+// Where a descriptor's value stands among the values of the attributes, and its width.
+#[derive(Clone, Copy, Default)]
 pub struct Place {
     pub at: usize,
     pub width: usize,

@@ -1,6 +1,6 @@
 -- The descriptors of a Variable Request and the containers of a Variable Response, written and read.
 use Prim.Native.Nat.{ℕ, ◌+◌, ◌-◌, ◌/◌, ◌%◌, ◌^◌, ◌<◌, ◌≤◌}
-use mathlib.Core.Path.{◌≡◌, refl, sym, ap, ◌∙◌}
+use mathlib.Core.Path.{◌≡◌, refl, sym, ap, subst, ◌∙◌}
 use mathlib.Core.List.{List, [], ◌++◌, append-nil}
 use mathlib.Core.Bool.{true}
 use native.Mathlib.Omega.{arith}
@@ -16,10 +16,12 @@ use Rattle.octets.proofs.Stores.{empty}
 use Rattle.frame_tlvs.specs.Walk.{Next, has, met}
 use Rattle.frame_tlvs.proofs.Walks.{Rest, Then, turn}
 use Rattle.frame_body.specs.Variables.{descriptor_step, width_of, container_from, container_step, value_of, Container, value, indication, descriptor_next, container_next, container_walk}
-use Rattle.frame_body.specs.declared.DescriptorStep.{DescriptorStep}
-use Rattle.frame_body.specs.declared.DescriptorStep.TheVariants.{End as DescriptorEnd, Broken as DescriptorBroken, Has}
-use Rattle.frame_body.specs.declared.ContainerStep.{ContainerStep}
-use Rattle.frame_body.specs.declared.ContainerStep.TheVariants.{End, Broken, Value, Indication}
+use Rattle.frame_body.specs.Variables.{DescriptorStep, DescriptorEnd, DescriptorBroken, Has, ContainerStep, End, Broken, Value, Indication, as_container_step, placed_content}
+use Rattle.frame_body.specs.declared.Container.{Container as FoundContainer}
+use Rattle.frame_body.specs.declared.Content.{Content}
+use Rattle.frame_body.specs.declared.Content.TheVariants.{Value as FoundValue, Indication as FoundIndication}
+use Rattle.frame_tlvs.specs.declared.Placed.{Placed}
+use Rattle.std.specs.Prelude.{Some, Ok}
 use Rattle.frame_body.proofs.Wholes.{Contained, container_within}
 use Rattle.frame_body.proofs.Places.{container_leads}
 use Rattle.octets.specs.Tests.{every}
@@ -38,7 +40,10 @@ width_again : (n : ℕ) → 1 ≤ n → n ≤ 128 → width_of (n % 128) ≡ n
 width_again n a b = by_cond (λ (x : ℕ). x ≡ n) (eqb (n % 128) 0) (λ t. omega (arith, eqb-true (n % 128) 0 t)) (λ f. omega (arith, eqb-false (n % 128) 0 f))
 
 width_octet_lem : (w : ℕ) → w < 128 → (1 ≤ width_of w) × (width_of w ≤ 128) × (width_of w % 128 ≡ w)
-width_octet_lem w h = by_cond (λ (x : ℕ). (1 ≤ x) × (x ≤ 128) × (x % 128 ≡ w)) (eqb w 0) (λ t. (omega arith, omega arith, sym (eqb-true w 0 t))) (λ f. (omega (arith, eqb-false w 0 f), omega arith, omega arith))
+width_octet_lem w h =
+    by_cond (λ (x : ℕ). (1 ≤ x) × (x ≤ 128) × (x % 128 ≡ w)) (eqb w 0)
+    (λ t. (omega arith, omega arith, sym (eqb-true w 0 t)))
+    (λ f. (omega (arith, eqb-false w 0 f), omega arith, omega arith))
 
 -- a container has some octets
 container_some : (c : Container) → 0 < container_length c
@@ -104,7 +109,8 @@ module _ (s : List ℕ) where
   next_container at = container_next s (container_step s at)
 
   -- the width octet after a descriptor
-  width_read : (at d o : ℕ) (y : List ℕ) → o < 256 → drop at s ≡ oct 3 d ++ (oct 1 o ++ y) → (get_or s (at + 3) 0 ≡ o) × (drop (at + 4) s ≡ y) × (length s ≡ at + 4 + length y)
+  width_read : (at d o : ℕ) (y : List ℕ) → o < 256 → drop at s ≡ oct 3 d ++ (oct 1 o ++ y)
+      → (get_or s (at + 3) 0 ≡ o) × (drop (at + 4) s ≡ y) × (length s ≡ at + 4 + length y)
   width_read at d o y h e =
       let after : drop (at + 3) s ≡ oct 1 o ++ y = past s at 3 (oct 3 d) (oct 1 o ++ y) (length-oct 3 d) e in
       let long : length s - at ≡ 4 + length y = sym (length-drop at s) ∙ ap length e ∙ omega arith in
@@ -230,8 +236,18 @@ module _ (s : List ℕ) where
       (omega arith, h.1, (f, g, omega arith))
   measure at (Indication d o n) h (f, g, e) = (omega arith, h.1, (f, g, omega arith))
 
-  -- one turn of the loop
-  pub measured_on : (at : ℕ) → Measured s at → Measures s at (container_step s at)
-  measured_on at h =
-      measure at (container_step s at) (container_within s at)
-      (turn (λ n. container_next s (container_step s n)) (length s) (container_leads s) (containers_length (containers_of s)) (λ w. at + containers_length (met w)) at h)
+  -- one turn of the loop: what is told by the step that is taken there
+  pub measured_on : (at : ℕ) {x : ContainerStep} → Measured s at → x ≡ container_step s at → Measures s at x
+  measured_on at h e =
+      subst (Measures s at) (sym e)
+      (measure at (container_step s at) (container_within s at)
+      (turn (λ n. container_next s (container_step s n)) (length s) (container_leads s) (containers_length (containers_of s)) (λ w. at + containers_length (met w)) at h))
+
+  -- and by a container that is met there, be it a value or an indication
+  pub measured_past : (at : ℕ) (p : Placed FoundContainer) → Measured s at → as_container_step (Some (Ok p)) ≡ container_step s at
+      → (at < p.end) × (p.end ≤ length s) × Measured s p.end
+  measured_past at p h e = by p.part.content (measured_on at h e)
+    where
+      by : (content : Content) → Measures s at (placed_content p.part.descriptor content p.end) → (at < p.end) × (p.end ≤ length s) × Measured s p.end
+      by (FoundValue width) m = m
+      by (FoundIndication octet) m = m

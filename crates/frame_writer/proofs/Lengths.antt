@@ -11,7 +11,8 @@ use lib.Dec.{leb}
 use Rattle.octets.specs.Octets.{total, oct, fit}
 use Rattle.octets.specs.Layout.{shortest_frame, body_start}
 use Rattle.frame_tlvs.specs.Tlvs.{row, event_length}
-use Rattle.frame_body.specs.Information.{InformationPart, local, remote}
+use Rattle.frame_body.specs.declared.InformationPart.{InformationPart}
+use Rattle.frame_body.specs.declared.InformationPart.TheVariants.{Local as local, Remote as remote}
 use Rattle.frame.specs.Frame.{Body, information, notification, request, response, loopback, organization, Message, code_of}
 use Rattle.frame_body.specs.declared.Information.{Information}
 use Rattle.frame_tlvs.specs.declared.Event.{Event}
@@ -102,7 +103,9 @@ events_short (e ∷ es) h =
 -- ---- containers
 
 pub length_container : (c : Container) → length (container_octets c) ≡ container_length c
-length_container (value d x) = omega (arith, length-append (oct 3 d) (oct 1 (length x % 128) ++ x), length-oct 3 d, length-append (oct 1 (length x % 128)) x, length-oct 1 (length x % 128))
+length_container (value d x) =
+    let octet = oct 1 (length x % 128) in
+    omega (arith, length-append (oct 3 d) (octet ++ x), length-oct 3 d, length-append octet x, length-oct 1 (length x % 128))
 length_container (indication d octet) = omega (arith, length-append (oct 3 d) (oct 1 octet), length-oct 3 d, length-oct 1 octet)
 
 pub length_containers : (cs : List Container) → length (joined container_octets cs) ≡ containers_length cs

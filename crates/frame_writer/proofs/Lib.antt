@@ -5,6 +5,6 @@ pub mod Answering
 -- Walks over parts of any kind, both ways, and descriptors and containers.
 pub mod Walking
 pub mod Containing
--- What the proofs of several functions use.
+-- What the proofs of several functions use, and what is needed of an output.
 mod Stores
-mod Writers
+pub mod Writers

@@ -6,17 +6,19 @@ use mathlib.Core.Bool.{Bool, true, false, cond, ◌&&◌}
 use native.Mathlib.Nat.{zero-add}
 use native.Mathlib.Omega.{arith}
 use borrow.Author.Tests.{eqb-true, leb-true, le-leb, lt-ltb, le-ltb, ne_eqb, eq-eqb}
-use lib.Dec.{ltb, leb, eqb}
+use lib.Dec.{leb, eqb}
 use lib.ListN.{length, get_or, take, drop, length-take, length-drop}
 use lib.Seq.{sets, drop-drop}
+use Rattle.std.specs.Prelude.{Option, None, Some}
+use Rattle.std.specs.Simd.{first_chunks}
 use Rattle.octets.specs.Octets.{octs, fit}
 use Rattle.frame_tlvs.specs.Tlvs.{row, event_widths, event_length}
 use Rattle.frame_tlvs.specs.declared.Event.{Event}
 use Rattle.frame.specs.Frame.{notification}
 use Rattle.frame_writer.specs.Encode.{event_values, event_octets, joined}
 use Rattle.octets.specs.Tests.{between, every}
-use Rattle.frame_writer.specs.Plain.{plain_event, most_events, plain_events, events_length, plain_body}
-use Rattle.frame_writer.specs.Writing.{event_from, plain_seven, events_from, events_of, event_count, measured_events, measured_seven}
+use Rattle.frame_writer.specs.Plain.{plain_event, most_events, plain_events, events_length, plain_body, some_octets}
+use Rattle.frame_writer.specs.Writing.{event_from, plain_seven, events_from, events_of, measured_events}
 use Rattle.octets.proofs.Bools.{never, and_l, and_r}
 use Rattle.octets.proofs.Stores.{sets-append}
 use Rattle.frame_writer.proofs.Lengths.{tabled, events_short}
@@ -40,6 +42,10 @@ six_values vs l = by_cells (λ (x : List ℕ). length x ≡ 7 → drop 1 x ≡ e
         → b ∷ c ∷ d ∷ e ∷ f ∷ g ∷ x ≡ b ∷ c ∷ d ∷ e ∷ f ∷ g ∷ []
     cells a b c d e f g [] k = refl
     cells a b c d e f g (y ∷ x) k = absurd (omega arith)
+
+-- what the test of a range tells
+pub is_between : (least most n : ℕ) → between least most n ≡ true → (least ≤ n) × (n ≤ most)
+is_between least most n t = (leb-true least n (and_l _ _ t), leb-true n most (and_r _ _ t))
 
 -- the widths of a type in the table are its row
 pub widths_row : (t : ℕ) → 0 < t → t ≤ 4 → event_widths t ≡ row t
@@ -70,6 +76,11 @@ fits_plain vs l a b =
     rw (widths_row (get_or vs 0 0) a b, six_values vs l)
     (simp (eq-eqb (length vs) 7 l, le-leb 1 (get_or vs 0 0) a, le-leb (get_or vs 0 0) 4 b))
 
+-- and of a type that is not in the table they are not
+pub untyped : (vs : List ℕ) → length vs ≡ 7 → between 1 4 (get_or vs 0 0) ≡ false → false ≡ plain_seven vs
+unfolding plain_seven plain_event
+untyped vs l h = rw (eq-eqb (length vs) 7 l, h)
+
 -- what `put_event` stores are the octets of the event
 pub event_octets_lem : (vs : List ℕ) → Seven vs
     → octs (1 ∷ 1 ∷ row (get_or vs 0 0)) (get_or vs 0 0 ∷ event_length (get_or vs 0 0) ∷ drop 1 vs) ≡ event_octets (event_from vs)
@@ -80,70 +91,85 @@ event_octets_lem vs s =
 
 -- ---- a turn of a loop over events
 
--- the numbers of the i-th event, as they are lent, and the events from the i-th of n on
-abbrev pub seven_at : List ℕ → ℕ → List ℕ
-seven_at vs i = take (i * 7 + 7 - i * 7) (drop (i * 7) vs)
-
-abbrev pub onward : List ℕ → ℕ → ℕ → List Event
-onward vs n i = events_from (n - i) (drop (i * 7) vs)
+-- the events from the i-th on
+abbrev pub onward : List ℕ → ℕ → List Event
+onward vs i = events_from (length vs / 7 - i) (drop (7 * i) vs)
 
 -- what is measured of events after a sum
 abbrev pub summed : ℕ → List Event → ℕ
 summed sum es = cond (every plain_event es) (sum + events_length es) 0
 
-module _ (vs : List ℕ) (n i : ℕ) (h : i < n) (k : n * 7 ≤ length vs) where
-  -- there are seven
-  all_seven : length (seven_at vs i) ≡ 7
-  all_seven = omega (arith, length-take (i * 7 + 7 - i * 7) (drop (i * 7) vs), length-drop (i * 7) vs)
+-- a chunk of seven numbers
+chunk : (n i : ℕ) (vs : List ℕ) → i < n → get_or (first_chunks 7 n vs) i [] ≡ take 7 (drop (7 * i) vs)
+chunk zero i vs h = absurd (omega arith)
+chunk (suc n) zero vs h = refl
+chunk (suc n) (suc i) vs h =
+    let e : 7 + 7 * i ≡ 7 * suc i = omega arith in
+    chunk n i (drop 7 vs) (omega arith) ∙ ap (take 7) (drop-drop (7 * i) 7 vs ∙ ap (λ (k : ℕ). drop k vs) e)
 
-  -- they are the first of the events that are left
-  split : onward vs n i ≡ event_from (seven_at vs i) ∷ onward vs n (i + 1)
-  split =
-      let left : n - i ≡ suc (n - (i + 1)) = omega arith in
-      let part : i * 7 + 7 - i * 7 ≡ 7 = omega arith in
-      let next : i * 7 + 7 ≡ (i + 1) * 7 = omega arith in
-      let first : event_from (take 7 (drop (i * 7) vs)) ≡ event_from (drop (i * 7) vs) =
-      by_cells (λ (x : List ℕ). event_from (take 7 x) ≡ event_from x) (λ a b c d e f g x. refl) (drop (i * 7) vs) (omega (arith, length-drop (i * 7) vs)) in
-      rw (left, part) (λ j. sym first j ∷ events_from (n - (i + 1)) ((drop-drop 7 (i * 7) vs ∙ ap (λ (m : ℕ). drop m vs) next) j))
+module _ (vs : List ℕ) {sevens : List (List ℕ)} (e : sevens ≡ first_chunks 7 (length vs / 7) vs) (i : ℕ) (h : i < length vs / 7) where
+  -- the i-th event's numbers, and the event
+  abbrev seven : List ℕ
+  seven = get_or sevens i []
 
   abbrev event : Event
-  event = event_from (seven_at vs i)
+  event = event_from seven
+
+  seven_is_chunk : seven ≡ take 7 (drop (7 * i) vs)
+  seven_is_chunk = ap (λ (x : List (List ℕ)). get_or x i []) e ∙ chunk (length vs / 7) i vs h
+
+  -- there are seven
+  all_seven : length seven ≡ 7
+  all_seven = omega (arith, ap length seven_is_chunk, length-take 7 (drop (7 * i) vs), length-drop (7 * i) vs)
+
+  -- it is the first of the events that are left
+  split : onward vs i ≡ event ∷ onward vs (i + 1)
+  split =
+      let left : length vs / 7 - i ≡ suc (length vs / 7 - (i + 1)) = omega arith in
+      let next : 7 * i + 7 ≡ 7 * (i + 1) = omega arith in
+      let first : event_from (take 7 (drop (7 * i) vs)) ≡ event_from (drop (7 * i) vs) =
+      by_cells (λ (x : List ℕ). event_from (take 7 x) ≡ event_from x) (λ a b c d e f g x. refl) (drop (7 * i) vs) (omega (arith, length-drop (7 * i) vs)) in
+      rw (seven_is_chunk, left)
+      (λ j. sym first j ∷ events_from (length vs / 7 - (i + 1)) ((drop-drop 7 (7 * i) vs ∙ ap (λ (m : ℕ). drop m vs) next) j))
+
+  -- whether it is plain
+  plain_is : plain_seven seven ≡ plain_event event
+  unfolding plain_seven
+  plain_is = rw (eq-eqb (length seven) 7 all_seven)
 
   -- what is measured from it on: nothing where it is not plain
-  pub next_summed : (sum octets : ℕ) → octets ≡ measured_seven (seven_at vs i)
-      → (summed sum (onward vs n i) ≡ cond (eqb octets 0) 0 (summed (sum + octets) (onward vs n (i + 1)))) × (octets ≤ 40)
-  unfolding measured_seven plain_seven
-  next_summed sum octets e = by (plain_event event) refl (e ∙ rw (eq-eqb (length (seven_at vs i)) 7 all_seven))
-    where
-      by : (b : Bool) → plain_event event ≡ b → octets ≡ cond b (event_length event.kind) 0
-          → (summed sum (onward vs n i) ≡ cond (eqb octets 0) 0 (summed (sum + octets) (onward vs n (i + 1)))) × (octets ≤ 40)
-      by true p z =
-          let t = tabled event p in
-          let a : sum + (event_length event.kind + events_length (onward vs n (i + 1))) ≡ sum + octets + events_length (onward vs n (i + 1)) = omega arith in
-          (rw (split, p, ne_eqb octets 0 (λ y. omega (arith, t.sized)), a), omega (arith, t.short))
-      by false p z = (rw (split, p, eq-eqb octets 0 z), omega arith)
+  pub none_summed : (sum : ℕ) → plain_seven seven ≡ false → summed sum (onward vs i) ≡ 0
+  none_summed sum f = rw (split, sym plain_is ∙ f)
+
+  pub next_summed : (sum : ℕ) → plain_seven seven ≡ true → summed sum (onward vs i) ≡ summed (sum + event_length event.kind) (onward vs (i + 1))
+  next_summed sum t =
+      let rest = events_length (onward vs (i + 1)) in
+      let a : sum + (event_length event.kind + rest) ≡ sum + event_length event.kind + rest = omega arith in
+      rw (split, sym plain_is ∙ t, a)
+
+  pub event_short : plain_seven seven ≡ true → (1 ≤ event_length event.kind) × (event_length event.kind ≤ 40)
+  event_short t = let t = tabled event (sym plain_is ∙ t) in (omega (arith, t.sized), t.short)
 
   -- where all that are left are plain: that it is, and what is stored from it on
   pub record Stored : Type 0 where
-    pub plain : plain_seven (seven_at vs i) ≡ true
-    pub long : events_length (onward vs n i) ≡ event_length (get_or (seven_at vs i) 0 0) + events_length (onward vs n (i + 1))
-    pub rest : every plain_event (onward vs n (i + 1)) ≡ true
-    pub stored : (l : List ℕ) (at : ℕ) → sets l at (joined event_octets (onward vs n i))
-        ≡ sets (sets l at (event_octets (event_from (seven_at vs i)))) (at + event_length (get_or (seven_at vs i) 0 0)) (joined event_octets (onward vs n (i + 1)))
+    pub plain : plain_seven seven ≡ true
+    pub long : events_length (onward vs i) ≡ event_length event.kind + events_length (onward vs (i + 1))
+    pub rest : every plain_event (onward vs (i + 1)) ≡ true
+    pub stored : (l : List ℕ) (at : ℕ) → sets l at (joined event_octets (onward vs i))
+        ≡ sets (sets l at (event_octets event)) (at + event_length event.kind) (joined event_octets (onward vs (i + 1)))
 
-  pub next_stored_lem : every plain_event (onward vs n i) ≡ true → Stored
-  unfolding plain_seven
+  pub next_stored_lem : every plain_event (onward vs i) ≡ true → Stored
   next_stored_lem p =
-      let all : (plain_event event && every plain_event (onward vs n (i + 1))) ≡ true = sym (ap (every plain_event) split) ∙ p in
+      let all : (plain_event event && every plain_event (onward vs (i + 1))) ≡ true = sym (ap (every plain_event) split) ∙ p in
       let first : plain_event event ≡ true = search and_l in
       record {
-        plain = rw (eq-eqb (length (seven_at vs i)) 7 all_seven) first;
+        plain = plain_is ∙ first;
         long = ap events_length split;
         rest = search and_r;
         stored =
             λ l at.
             ap (λ (es : List Event). sets l at (joined event_octets es)) split
-            ∙ sets-append l at (event_octets event) (joined event_octets (onward vs n (i + 1)))
+            ∙ sets-append l at (event_octets event) (joined event_octets (onward vs (i + 1)))
             ∙ rw (tabled event first).long;
       }
 
@@ -153,26 +179,17 @@ length_from : (n : ℕ) (vs : List ℕ) → length (events_from n vs) ≡ n
 length_from zero vs = refl
 length_from (suc n) vs = ap suc (length_from n (drop 7 vs))
 
--- what `event_count` tells: so many events are measured, one after another
-pub record Counted (vs : List ℕ) (n : ℕ) : Type 0 where
-  pub most : n ≤ most_events
-  pub within : n * 7 ≤ length vs
-  pub measured : measured_events (events_of vs) ≡ summed 0 (events_from n vs)
-
-pub counted : (vs : List ℕ) → Counted vs (event_count (length vs))
+-- numbers that are no whole events are not measured
+pub uneven : (vs : List ℕ) → (length vs % 7 ≡ 0 → ⊥) → measured_events (events_of vs) ≡ 0
 unfolding events_of measured_events
-counted vs = by (eqb (length vs % 7) 0) (between 1 most_events (length vs / 7)) refl refl
-  where
-    by : (e b : Bool) → eqb (length vs % 7) 0 ≡ e → between 1 most_events (length vs / 7) ≡ b → Counted vs (cond (e && b) (length vs / 7) 0)
-    by false b p q = record { most = omega arith; within = omega arith; measured = rw p }
-    by true false p q = record { most = omega arith; within = omega arith; measured = rw (p, length_from (length vs / 7) vs, q) }
-    by true true p q =
-        let upto : leb (length vs / 7) most_events ≡ true = search and_r in
-        record {
-          most = leb-true (length vs / 7) most_events upto;
-          within = omega arith;
-          measured = rw (p, length_from (length vs / 7) vs, q, zero-add);
-        }
+uneven vs h = rw (ne_eqb (length vs % 7) 0 h)
+
+-- whole ones are, where there are 1 to 16
+pub even : (vs : List ℕ) → length vs % 7 ≡ 0 → {b : Bool} → b ≡ between 1 most_events (length vs / 7)
+    → measured_events (events_of vs) ≡ cond b (summed 0 (events_from (length vs / 7) vs)) 0
+unfolding events_of measured_events
+even vs h {b = true} e = rw (eq-eqb (length vs % 7) 0 h, length_from (length vs / 7) vs, sym e, zero-add)
+even vs h {b = false} e = rw (eq-eqb (length vs % 7) 0 h, length_from (length vs / 7) vs, sym e)
 
 -- what the plain form says of a list of numbers
 pub record Eventful (vs : List ℕ) : Type 0 where
@@ -189,29 +206,50 @@ eventful vs h = by (eqb (length vs % 7) 0) refl h
 
 -- ---- a notification by the measure of its events
 
-module _ (n : ℕ) (es : List Event) (octets : ℕ) (e : octets ≡ measured_events es) where
-  -- it has a plain form where its events are measured: its number fits by its type
-  pub measured_plain : n < 256 ^ 2 → ltb 0 octets ≡ plain_body (notification n es)
-  unfolding measured_events
-  measured_plain h = rw (lt-ltb n (256 ^ 2) h) (by es (plain_events es) refl e)
-    where
-      by : (xs : List Event) (b : Bool) → plain_events xs ≡ b → octets ≡ cond b (events_length xs) 0 → ltb 0 octets ≡ plain_events xs
-      by xs false p k = rw p (le-ltb 0 octets (omega arith))
-      by [] true p k = never p
-      by (x ∷ xs) true p k =
-          let first : plain_event x ≡ true = search (and_l, and_r) in
-          rw p (lt-ltb 0 octets (omega (arith, (tabled x first).sized)))
+-- events in plain form have some octets
+some_events : (es : List Event) → plain_events es ≡ true → 0 < events_length es
+some_events [] p = never p
+some_events (e ∷ es) p =
+    let first : plain_event e ≡ true = search (and_l, and_r) in
+    omega (arith, (tabled e first).sized)
 
-  pub record Measured : Type 0 where
-    pub plain : plain_events es ≡ true
+module _ (n : ℕ) (es : List Event) (h : n < 256 ^ 2) where
+  -- it has no plain form where its events are not measured: its number fits by its type
+  pub measured_none : None ≡ some_octets (measured_events es) → plain_body (notification n es) ≡ false
+  unfolding measured_events
+  measured_none e = rw (lt-ltb n (256 ^ 2) h) (by (plain_events es) refl e)
+    where
+      by : (b : Bool) → plain_events es ≡ b → None ≡ some_octets (cond b (events_length es) 0) → plain_events es ≡ false
+      by false f k = f
+      by true t k =
+          let some = ne_eqb (events_length es) 0 (λ z. omega (arith, some_events es t)) in
+          let k' : ◌≡◌ {A = Option ℕ} None (Some (events_length es)) = rw some at k in
+          cc
+
+  -- what is said of a notification whose events are measured
+  pub record Measured (octets : ℕ) : Type 0 where
+    pub plain : plain_body (notification n es) ≡ true
     pub long : octets ≡ events_length es
     pub short : octets ≤ 40 * most_events
 
-  pub measured_is : plain_body (notification n es) ≡ true → Measured
+  pub measured_some : {octets : ℕ} → Some octets ≡ some_octets (measured_events es) → Measured octets
   unfolding measured_events
-  measured_is h =
-      let p : plain_events es ≡ true = search and_r in
-      let all : every plain_event es ≡ true = search and_r in
-      let few : leb (length es) most_events ≡ true = search (and_l, and_r) in
-      let long : octets ≡ events_length es = e ∙ rw p in
-      record { plain = p; long = long; short = omega (arith, leb-true (length es) most_events few, events_short es all) }
+  measured_some {octets} e = by (plain_events es) refl e
+    where
+      by : (b : Bool) → plain_events es ≡ b → Some octets ≡ some_octets (cond b (events_length es) 0) → Measured octets
+      by false f k = cc
+      by true t k =
+          let some = ne_eqb (events_length es) 0 (λ z. omega (arith, some_events es t)) in
+          let k' : ◌≡◌ {A = Option ℕ} (Some octets) (Some (events_length es)) = rw some at k in
+          let long : octets ≡ events_length es = cc in
+          let few : leb (length es) most_events ≡ true = search (and_l, and_r) in
+          let all : every plain_event es ≡ true = search and_r in
+          record {
+            plain = rw (lt-ltb n (256 ^ 2) h, t);
+            long = long;
+            short = omega (arith, leb-true (length es) most_events few, events_short es all);
+          }
+
+-- a notification in plain form has such events
+pub plain_events_of : (n : ℕ) (es : List Event) → plain_body (notification n es) ≡ true → plain_events es ≡ true
+plain_events_of n es h = and_r _ _ h

@@ -48,7 +48,7 @@ these_known (p ∷ ps) = these_known ps
 abbrev pub Begins : List ℕ → List ℕ → Type 0
 Begins s x = (z : List ℕ) × (s ≡ x ++ z)
 
--- after the parts 0 is read, of the zeros or past the end
+-- after the parts 0 is read, of the padding or past the end
 first_zero : (n : ℕ) → ◌≡◌ {A = ℕ} (get_or (replicate n 0) 0 0) 0
 first_zero zero = refl
 first_zero (suc n) = refl
@@ -82,26 +82,26 @@ module _ {P : Type 0} {octets : P → List ℕ} {test : P → Bool} {skipped : T
       omega (arith, length-append (octets p) (joined octets ps), codes.some p a, few ps b)
 
   -- the walk from an octet where the parts that are left stand
-  from : (zeros steps at : ℕ) (ps : List P) → every test ps ≡ true → length ps ≤ steps → drop at s ≡ joined octets ps ++ replicate zeros 0
+  from : (padding steps at : ℕ) (ps : List P) → every test ps ≡ true → length ps ≤ steps → drop at s ≡ joined octets ps ++ replicate padding 0
       → walk next steps at ≡ these ps
   unfolding walk
-  from zeros zero at [] t l h = refl
-  from zeros zero at (p ∷ ps) t l h = absurd (omega arith)
-  from zeros (suc steps) at [] t l h =
-      let first : get_or s (at + 0) 0 ≡ 0 = sym (get_or-drop at s 0 0) ∙ ap (λ (x : List ℕ). get_or x 0 0) h ∙ first_zero zeros in
+  from padding zero at [] t l h = refl
+  from padding zero at (p ∷ ps) t l h = absurd (omega arith)
+  from padding (suc steps) at [] t l h =
+      let first : get_or s (at + 0) 0 ≡ 0 = sym (get_or-drop at s 0 0) ∙ ap (λ (x : List ℕ). get_or x 0 0) h ∙ first_zero padding in
       rw (codes.stops at (rw add-zero at first))
-  from zeros (suc steps) at (p ∷ ps) t l h =
+  from padding (suc steps) at (p ∷ ps) t l h =
       let a : test p ≡ true = search and_l in
       let b : every test ps ≡ true = search and_r in
-      let y = joined octets ps ++ replicate zeros 0 in
-      let h' = h ∙ append_assoc (octets p) (joined octets ps) (replicate zeros 0) in
+      let y = joined octets ps ++ replicate padding 0 in
+      let h' = h ∙ append_assoc (octets p) (joined octets ps) (replicate padding 0) in
       rw (codes.meets at p y a h')
-      (ap (part p) (from zeros steps (at + length (octets p)) ps b (omega arith) (past s at (length (octets p)) (octets p) y refl h')))
+      (ap (part p) (from padding steps (at + length (octets p)) ps b (omega arith) (past s at (length (octets p)) (octets p) y refl h')))
 
-  -- the octets of parts, with zeros or nothing after them, are walked over as those parts
-  pub walk_read : (ps : List P) (zeros : ℕ) → every test ps ≡ true → s ≡ joined octets ps ++ replicate zeros 0 → walk next (length s) 0 ≡ these ps
-  walk_read ps zeros t h =
-      from zeros (length s) 0 ps t (omega (arith, few ps t, length-append (joined octets ps) (replicate zeros 0), ap length h)) h
+  -- the octets of parts, with padding or nothing after them, are walked over as those parts
+  pub walk_read : (ps : List P) (padding : ℕ) → every test ps ≡ true → s ≡ joined octets ps ++ replicate padding 0 → walk next (length s) 0 ≡ these ps
+  walk_read ps padding t h =
+      from padding (length s) 0 ps t (omega (arith, few ps t, length-append (joined octets ps) (replicate padding 0), ap length h)) h
 
   -- ---- what is read is written again
 

@@ -1,13 +1,13 @@
 -- The frame of a message.
-use Rattle.std.specs.Prelude.{ℕ, ◌-◌, ◌%◌, List, [], ◌∷◌, ◌++◌, length, replicate}
+use Rattle.std.specs.Prelude.{ℕ, ◌-◌, ◌%◌, List, [], ◌∷◌, ◌++◌, length, replicate, Option, None, Some}
 use Rattle.frame_tlvs.specs.Tlvs.{row, event_length}
-use Rattle.frame_body.specs.Information.{InformationPart, local, remote, information_widths, information_values}
+use Rattle.frame_body.specs.Information.{information_widths, information_values}
+use Rattle.frame_body.specs.declared.InformationPart.{InformationPart}
+use Rattle.frame_body.specs.declared.InformationPart.TheVariants.{Local as local, Remote as remote}
 use Rattle.frame_body.specs.Variables.{Container, value, indication}
 use Rattle.frame.specs.Frame.{Body, information, notification, request, response, loopback, organization, Message, code_of}
 use Rattle.frame_body.specs.declared.Information.{Information}
 use Rattle.frame_tlvs.specs.declared.Event.{Event}
-use Rattle.frame_body.specs.declared.Held.{Held}
-use Rattle.frame_body.specs.declared.Held.TheVariants.{Nothing, Is}
 use Rattle.octets.specs.Octets.{oct, octs}
 use Rattle.octets.specs.Layout.{shortest_frame, destination, length_type, subtype}
 
@@ -30,9 +30,9 @@ part_octets (local i) = information_octets 1 i
 part_octets (remote i) = information_octets 2 i
 
 -- the same for a TLV that may be missing
-abbrev pub held_octets : ℕ → Held → List ℕ
-held_octets t Nothing = []
-held_octets t (Is i) = information_octets t i
+abbrev pub held_octets : ℕ → Option Information → List ℕ
+held_octets t None = []
+held_octets t (Some i) = information_octets t i
 
 -- an event's six values, in the order of the table of widths
 abbrev pub event_values : Event → List ℕ

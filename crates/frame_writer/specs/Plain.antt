@@ -2,7 +2,9 @@
 use Rattle.std.specs.Prelude.{ℕ, ◌+◌, ◌-◌, ◌*◌, ◌^◌, max, List, [], ◌∷◌, Bool, true, false, cond, not, ◌&&◌, ◌||◌, length, ltb, leb, eqb}
 use Rattle.frame.specs.Flags.{flags_of}
 use Rattle.frame_tlvs.specs.Tlvs.{row, event_length}
-use Rattle.frame_body.specs.Information.{InformationPart, local, remote, information_widths, information_values}
+use Rattle.frame_body.specs.Information.{information_widths, information_values}
+use Rattle.frame_body.specs.declared.InformationPart.{InformationPart}
+use Rattle.frame_body.specs.declared.InformationPart.TheVariants.{Local as local, Remote as remote}
 use Rattle.frame_body.specs.Variables.{Container, value, indication}
 use Rattle.frame.specs.Frame.{Body, information, notification, request, response, loopback, organization, Message}
 use Rattle.frame_body.specs.declared.Information.{Information}
@@ -12,6 +14,8 @@ use Rattle.octets.specs.Layout.{shortest_frame, longest_frame, body_start}
 use Rattle.frame_variables.specs.Descriptors.{plain_descriptor, plain_descriptors}
 use Rattle.frame_variables.specs.Attributes.{most_width}
 use Rattle.frame_variables.specs.Answers.{containers_length}
+-- writers and the ends have it from here
+pub use Rattle.frame_variables.specs.Answers.{some_octets}
 use Rattle.frame_writer.specs.Encode.{event_values}
 -- the event log has these two from here
 pub use Rattle.octets.specs.Tests.{between, every}

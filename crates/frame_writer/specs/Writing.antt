@@ -1,20 +1,27 @@
 -- What a writer promises: its answer, and its whole output.
-use Rattle.std.specs.Prelude.{ℕ, zero, suc, ◌/◌, ◌%◌, ◌≡◌, List, [], ◌∷◌, Bool, false, cond, ◌&&◌, length, get_or, drop, ltb, eqb}
+use Rattle.std.specs.Prelude.{ℕ, zero, suc, ◌/◌, ◌%◌, ◌≡◌, List, [], ◌∷◌, Bool, false, cond, length, get_or, drop, ltb, eqb, Option, None, Some, Result, Ok, Err}
 use Rattle.std.proofs.lemmas.List.Edits.{sets}
-use Rattle.frame_body.specs.Information.{InformationPart, local, remote}
-use Rattle.frame_tlvs.specs.Tlvs.{event_length}
+use Rattle.frame_body.specs.declared.InformationPart.{InformationPart}
+use Rattle.frame_body.specs.declared.InformationPart.TheVariants.{Local as local, Remote as remote}
 use Rattle.frame_tlvs.specs.Events.{event_of}
 use Rattle.frame.specs.Frame.{Body, Message}
 use Rattle.frame_tlvs.specs.declared.Event.{Event}
 use Rattle.frame_body.specs.declared.Found.{Found}
 use Rattle.frame_body.specs.declared.Information.{Information}
-use Rattle.frame_body.specs.declared.Held.{Held}
-use Rattle.frame_body.specs.declared.Held.TheVariants.{Nothing, Is}
-use Rattle.frame_writer.specs.declared.Written.{Written}
-use Rattle.frame_writer.specs.declared.Written.TheVariants.{Refused, Wrote}
+use Rattle.octets.specs.declared.refusal.Refusal.{Refusal}
+use Rattle.octets.specs.declared.refusal.Refusal.TheVariants.{ShortOutput, OutOfRange}
+use Rattle.octets.specs.Refusals.{number}
 use Rattle.frame_writer.specs.Encode.{encode}
-use Rattle.octets.specs.Tests.{between}
-use Rattle.frame_writer.specs.Plain.{plain_information, plain_event, most_events, plain_events, events_length, plain}
+use Rattle.frame_writer.specs.Plain.{plain_event, plain_events, events_length, plain}
+
+-- what a writer answers: a refusal's number, or the octets of the frame that it wrote
+pub data Written : Type 0 where
+  Refused : ℕ → Written
+  Wrote : ℕ → Written
+
+abbrev pub as_written : Result ℕ Refusal → Written
+as_written (Ok octets) = Wrote octets
+as_written (Err refusal) = Refused (number refusal)
 
 -- "The frame writer by itself (10 for what has no plain form) ...: 10, then 9."
 unfoldable pub writes : Message → ℕ → Written
@@ -40,6 +47,12 @@ pub record WritingFormed (formed : Bool) (m : Message) (entry : List ℕ) (answe
   pub answers : answer ≡ writes_formed formed m (length entry)
   pub output : exit ≡ written_formed formed m entry
 
+-- How the code finds both refusals, by whether the header has a plain form, and by the octets that an output must have, none
+-- where the body has no plain form.
+abbrev pub permitted : Bool → Option ℕ → ℕ → Result ℕ Refusal
+permitted plain None room = Err OutOfRange
+permitted plain (Some octets) room = cond plain (cond (ltb room octets) (Err ShortOutput) (Ok octets)) (Err OutOfRange)
+
 -- ---- the messages that the writers are handed
 
 -- nothing is skipped in them
@@ -47,16 +60,11 @@ abbrev pub message_of : ℕ → ℕ → Body → Message
 message_of source flags body = record { source = source; flags = flags; skipped = 0; body = body }
 
 -- the Local first, then the Remote
-abbrev pub parts_from : Held → Held → List InformationPart
-parts_from Nothing Nothing = []
-parts_from Nothing (Is j) = remote j ∷ []
-parts_from (Is i) Nothing = local i ∷ []
-parts_from (Is i) (Is j) = local i ∷ remote j ∷ []
-
--- the test of a Local and of the Remote that may follow it
-abbrev pub plain_local : Information → Held → Bool
-plain_local i Nothing = plain_information i
-plain_local i (Is j) = plain_information i && plain_information j
+abbrev pub parts_from : Option Information → Option Information → List InformationPart
+parts_from None None = []
+parts_from None (Some j) = remote j ∷ []
+parts_from (Some i) None = local i ∷ []
+parts_from (Some i) (Some j) = local i ∷ remote j ∷ []
 
 abbrev pub parts_of : Found → List InformationPart
 parts_of found = parts_from found.local found.remote
@@ -78,13 +86,6 @@ events_from (suc n) vs = event_from vs ∷ events_from n (drop 7 vs)
 unfoldable pub events_of : List ℕ → List Event
 events_of vs = cond (eqb (length vs % 7) 0) (events_from (length vs / 7) vs) []
 
--- how many events so many numbers are, 0 where they are not 1 to 16 whole ones
-abbrev pub event_count : ℕ → ℕ
-event_count n = cond (eqb (n % 7) 0 && between 1 most_events (n / 7)) (n / 7) 0
-
 -- the octets that some events take, 0 where they have no plain form
 unfoldable pub measured_events : List Event → ℕ
 measured_events es = cond (plain_events es) (events_length es) 0
-
-unfoldable pub measured_seven : List ℕ → ℕ
-measured_seven vs = cond (plain_seven vs) (event_length (get_or vs 0 0)) 0

@@ -3,54 +3,37 @@ ghost use Rattle.std.specs.Prelude.{◌≡◌, ◌+◌, ◌≤◌, length};
 ghost use Rattle.std.proofs.lemmas.List.Edits.{sets};
 ghost use Rattle.frame.specs.Frame.{information};
 ghost use Rattle.frame_writer.specs.Encode.{information_octets, held_octets};
-ghost use Rattle.frame_writer.specs.Plain.{plain_information, plain_parts};
-ghost use Rattle.frame_writer.specs.Writing.{Writing, message_of, parts_from, parts_of, plain_local};
+ghost use Rattle.frame_writer.specs.Plain.{plain_information, plain_parts, sized, some_octets};
+ghost use Rattle.frame_writer.specs.Writing.{Writing, as_written, message_of, parts_of};
 
-use crate::Written;
-use crate::header::{finish, is_plain, put_header};
+use crate::padding::finish;
+use crate::sender::Sender;
 use crate::storing::put_tlv;
-use frame_body::{Found, Held, INFORMATION_WIDTHS, Information};
-use octets::{BODY_START, SHORTEST_FRAME, all_four};
+use frame_body::{Found, INFORMATION_WIDTHS, Information};
+use octets::{BODY_START, Refusal, SHORTEST_FRAME};
 
 #[tactic(auto, unfolding(crate::specs::Plain::plain_information))]
 fn plain_information(i: Information) -> bool
     ensures { result ≡ plain_information i }
 {
-    all_four(
-        i.state < 8,
-        i.configuration < 32,
-        i.oampdu < 2048,
-        i.oui < 0x1000000,
-    )
-}
-
-// Where there is a Local, whether it has a plain form, and the Remote if there is one.
-fn plain_local(i: Information, remote: Held) -> bool
-    ensures { result ≡ plain_local i remote }
-{
-    match remote {
-        Held::Nothing => plain_information(i),
-        Held::Is(j) => {
-            if plain_information(i) {
-                plain_information(j)
-            } else {
-                false
-            }
-        }
-    }
+    i.state < 8 && i.configuration < 32 && i.oampdu < 2048 && i.oui < 0x1000000
 }
 
 // Whether the TLVs to be written have a plain form; a Remote without a Local has none.
-fn plain_found(local: Held, remote: Held) -> bool
-    ensures { result ≡ plain_parts (parts_from local remote) }
+fn plain_found(found: Found) -> bool
+    ensures { result ≡ plain_parts (parts_of found) }
 {
-    match local {
-        Held::Is(i) => plain_local(i, remote),
-        Held::Nothing => match remote {
-            Held::Nothing => true,
-            Held::Is(_) => false,
-        },
+    match found.local {
+        Some(local) => plain_information(local) && found.remote.is_none_or(plain_information),
+        None => found.remote.is_none(),
     }
+}
+
+// The octets of an Information frame, if it has a plain form: no TLV, one or two are within the shortest frame.
+fn found_octets(found: Found) -> Option<usize>
+    ensures { result ≡ some_octets (sized (information (parts_of found))) }
+{
+    plain_found(found).then_some(SHORTEST_FRAME)
 }
 
 // Stores an Information TLV of a type from octet at.
@@ -60,57 +43,38 @@ fn put_information(out: &mut [u8], at: usize, t: u8, i: Information)
     ensures { out.new ≡ sets out.old at (information_octets t i) }
 {
     let values: [u64; 7] = [
-        i.version as u64,
-        i.revision as u64,
-        i.state as u64,
-        i.configuration as u64,
-        i.oampdu as u64,
-        i.oui as u64,
-        i.vendor as u64,
+        u64::from(i.version),
+        u64::from(i.revision),
+        u64::from(i.state),
+        u64::from(i.configuration),
+        u64::from(i.oampdu),
+        u64::from(i.oui),
+        u64::from(i.vendor),
     ];
     put_tlv(out, at, t, 16, &INFORMATION_WIDTHS, &values);
 }
 
-// Stores a TLV from octet at where there is one.
-fn put_held(out: &mut [u8], at: usize, t: u8, held: Held)
-    requires { at + length (held_octets t held) ≤ length out.old }
-    ensures { out.new ≡ sets out.old at (held_octets t held) }
+// Stores a TLV from octet at where there is one, and gives the octet after it.
+fn put_held(out: &mut [u8], at: usize, t: u8, held: Option<Information>) -> usize
+    requires { at + 16 ≤ length out.old }
+    ensures next { result ≡ at + length (held_octets t held) }
+    ensures short { result ≤ at + 16 }
+    ensures output { out.new ≡ sets out.old at (held_octets t held) }
 {
-    match held {
-        Held::Nothing => {}
-        Held::Is(i) => {
-            put_information(out, at, t, i);
-        }
-    }
-}
-
-// The octet after a TLV that may stand at octet at.
-fn after_held(at: usize, t: u8, held: Held) -> usize
-    requires { at ≤ 34 }
-    ensures { (result ≡ at + length (held_octets t held)) × (result ≤ at + 16) }
-{
-    match held {
-        Held::Nothing => at,
-        Held::Is(_) => at + 16,
-    }
+    let Some(information) = held else {
+        return at;
+    };
+    put_information(out, at, t, information);
+    at + 16
 }
 
 // Writes an Information frame with no TLV, the Local, or the Local and then the Remote.
-pub fn write_information(source: u64, flags: u16, found: Found, out: &mut [u8]) -> Written
-    ensures { Writing (message_of source flags (information (parts_of found))) out.old result out.new }
+pub fn write_information(sender: Sender, found: Found, out: &mut [u8]) -> Result<usize, Refusal>
+    ensures { Writing (message_of sender.source sender.flags (information (parts_of found))) out.old (as_written result) out.new }
 {
-    let local = found.local;
-    let remote = found.remote;
-    if !is_plain(source, flags, plain_found(local, remote)) {
-        return Written::Refused(10);
-    }
-    if out.len() < SHORTEST_FRAME {
-        return Written::Refused(9);
-    }
-    let middle = after_held(BODY_START, 1, local);
-    let end = after_held(middle, 2, remote);
-    put_header(out, source, flags, 0);
-    put_held(out, BODY_START, 1, local);
-    put_held(out, middle, 2, remote);
-    finish(out, end)
+    sender.permits(found_octets(found), out.len())?;
+    sender.put(0, out);
+    let middle = put_held(out, BODY_START, 1, found.local);
+    let end = put_held(out, middle, 2, found.remote);
+    Ok(finish(out, end))
 }

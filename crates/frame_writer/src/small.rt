@@ -1,70 +1,63 @@
 // The Loopback Control frame and the organization specific frame.
-ghost use Rattle.std.specs.Prelude.{◌≡◌, ◌||◌, eqb};
+ghost use Rattle.std.specs.Prelude.{◌≡◌};
 ghost use Rattle.frame.specs.Frame.{loopback, organization};
-ghost use Rattle.frame_writer.specs.Plain.{plain_organization, sized};
-ghost use Rattle.frame_writer.specs.Writing.{Writing, message_of};
+ghost use Rattle.frame_writer.specs.Plain.{plain_organization, sized, some_octets};
+ghost use Rattle.frame_writer.specs.Writing.{Writing, as_written, message_of};
 
-use crate::Written;
-use crate::header::{finish, is_plain, put_header};
+use crate::padding::finish;
+use crate::sender::Sender;
 use crate::storing::put_number;
-use octets::{BODY_START, DATA_START, SHORTEST_FRAME, all_three, either, put_octets};
+use octets::{BODY_START, DATA_START, Refusal, SHORTEST_FRAME, put_octets};
 
-fn plain_command(command: u8) -> bool
-    ensures { result ≡ (eqb command 1 || eqb command 2) }
+// The octets of a Loopback Control frame, if it has a plain form.
+#[tactic(auto, unfolding(crate::specs::Plain::sized))]
+fn loopback_octets(command: u8) -> Option<usize>
+    ensures { result ≡ some_octets (sized (loopback command)) }
 {
-    either(command == 1, command == 2)
+    match command {
+        1 | 2 => Some(SHORTEST_FRAME),
+        _ => None,
+    }
 }
 
-// Writes a Loopback Control frame.
-pub fn write_loopback(source: u64, flags: u16, command: u8, out: &mut [u8]) -> Written
-    ensures { Writing (message_of source flags (loopback command)) out.old result out.new }
+// Writes a Loopback Control frame: command 1 starts a remote loopback, 2 stops it.
+pub fn write_loopback(sender: Sender, command: u8, out: &mut [u8]) -> Result<usize, Refusal>
+    ensures { Writing (message_of sender.source sender.flags (loopback command)) out.old (as_written result) out.new }
 {
-    if !is_plain(source, flags, plain_command(command)) {
-        return Written::Refused(10);
-    }
-    if out.len() < SHORTEST_FRAME {
-        return Written::Refused(9);
-    }
-    put_header(out, source, flags, 4);
-    put_number(out, BODY_START, 1, command as u64);
-    finish(out, BODY_START + 1)
+    sender.permits(loopback_octets(command), out.len())?;
+    sender.put(4, out);
+    put_number(out, BODY_START, 1, u64::from(command));
+    Ok(finish(out, BODY_START + 1))
 }
 
 fn plain_organization(oui: u32, octets: usize) -> bool
     ensures { result ≡ plain_organization oui octets }
 {
-    all_three(oui < 0x1000000, 39 <= octets, octets <= 1493)
+    oui < 0x1000000 && 39 <= octets && octets <= 1493
 }
 
-// The octets of an organization specific frame, 0 where it has no plain form.
-pub fn organization_octets(oui: u32, octets: &[u8]) -> usize
-    ensures { result ≡ sized (organization oui octets.now) }
+// The octets of an organization specific frame, if it has a plain form.
+pub fn organization_octets(oui: u32, octets: &[u8]) -> Option<usize>
+    ensures { result ≡ some_octets (sized (organization oui octets.now)) }
 {
-    if plain_organization(oui, octets.len()) {
-        return DATA_START + octets.len();
+    if !plain_organization(oui, octets.len()) {
+        return None;
     }
-    0
+    Some(DATA_START + octets.len())
 }
 
-// Writes an organization specific frame: the OUI and the organization's data.
+// Writes an organization specific frame: the OUI, 24 bits, and 39 to 1,493 octets of the organization's data.
 pub fn write_organization(
-    source: u64,
-    flags: u16,
+    sender: Sender,
     oui: u32,
     octets: &[u8],
     out: &mut [u8],
-) -> Written
-    ensures { Writing (message_of source flags (organization oui octets.now)) out.old result out.new }
+) -> Result<usize, Refusal>
+    ensures { Writing (message_of sender.source sender.flags (organization oui octets.now)) out.old (as_written result) out.new }
 {
-    if !is_plain(source, flags, plain_organization(oui, octets.len())) {
-        return Written::Refused(10);
-    }
-    let end = DATA_START + octets.len();
-    if out.len() < end {
-        return Written::Refused(9);
-    }
-    put_header(out, source, flags, 0xfe);
-    put_number(out, BODY_START, 3, oui as u64);
+    sender.permits(organization_octets(oui, octets), out.len())?;
+    sender.put(0xfe, out);
+    put_number(out, BODY_START, 3, u64::from(oui));
     put_octets(out, DATA_START, octets);
-    finish(out, end)
+    Ok(finish(out, DATA_START + octets.len()))
 }

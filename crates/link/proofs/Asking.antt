@@ -1,47 +1,70 @@
--- What a decided request comes to, by its answer.
+-- What a request comes to, by what is decided of it.
 use Prim.Native.Nat.{ℕ}
+use Rattle.std.proofs.Common.{rules}
 use mathlib.Core.Path.{◌≡◌, refl, sym, ap, ◌∙◌}
 use mathlib.Core.List.{List}
 use mathlib.Core.Bool.{Bool, true, false}
 use native.Mathlib.Omega.{arith}
-use borrow.Author.Tests.{ne_eqb}
+use borrow.Author.Tests.{eqb-true}
 use lib.Dec.{ltb, leb, eqb}
 use lib.ListN.{length}
-use Rattle.frame.specs.Frame.{Body, Message}
-use Rattle.frame_writer.specs.Writing.{writes, written, Writing, WritingFormed, message_of}
-use Rattle.frame_writer.specs.declared.Written.{Written}
-use Rattle.octets.proofs.Bools.{by_cond, whether}
+use Rattle.std.specs.Prelude.{Result, Ok, Err}
+use Rattle.octets.specs.declared.refusal.Refusal.{Refusal}
+use Rattle.octets.specs.Refusals.{number}
+use Rattle.octets.proofs.Bools.{whether}
+use Rattle.frame.specs.Frame.{Message}
+use Rattle.frame_writer.specs.Plain.{some_octets}
+use Rattle.frame_writer.specs.Writing.{Written, as_written, writes, written, Writing, WritingFormed, message_of}
+use Rattle.frame_writer.specs.declared.sender.Sender.{Sender}
+use Rattle.octets.specs.Refusals.{as_answer}
 use Rattle.link_limit.specs.Tests.{request_answer}
 use Rattle.link_end.specs.declared.End.{End}
-use Rattle.link_end.specs.declared.Decided.{Decided}
 use Rattle.link_end.specs.declared.News.TheVariants.{Nothing}
-use Rattle.link_end.specs.Sending.{dues, flags_to_send}
-use Rattle.link_end.specs.Granting.{answer_to, granted, decided}
-use Rattle.link.specs.declared.Outcome.{Outcome}
-use Rattle.link.specs.Outcomes.{length_of, outcome}
-use Rattle.link.specs.Requests.{Asked, request_to_send, concluded_request, concluded_request_output, octets_asked, decided_request, request_of, request_output}
+use Rattle.link_end.specs.Sending.{sender_of}
+use Rattle.link_end.specs.Granting.{Decided, as_decided, octets_in, answer_to, decided}
+use Rattle.link.specs.declared.Step.{Step}
+use Rattle.link.specs.Outcomes.{length_of, outcome, told}
+use Rattle.link.specs.Requests.{Asked, request_to_send, concluded_request, concluded_request_output, decided_request, request_of, request_output}
 
--- the two promises of a request
-abbrev pub Asks : Decided → Body → List ℕ → Outcome → List ℕ → Type 0
-Asks d body out r exit = (r ≡ concluded_request d body (length out)) × (exit ≡ concluded_request_output d body out)
+-- a refusal's number is never 0, which is the answer to what is granted
+never_0 : (r : Refusal) → eqb (number r) 0 ≡ false
+never_0 r = search rules
 
-module _ (d : Decided) (body : Body) (out : List ℕ) where
-  -- granted: its frame is written, by the end as it stands after the call
-  pub grants : d.answer ≡ 0 → (source flags : ℕ) (w : Written) (r : Outcome) (exit : List ℕ)
-      → source ≡ d.end.settings.source → flags ≡ flags_to_send d.end → Writing (message_of source flags body) out w exit
-      → r ≡ outcome d.end 0 (length_of w) Nothing → Asks d body out r exit
-  unfolding concluded_request concluded_request_output request_to_send
-  grants none source flags w r exit s f h o =
-      let m : message_of source flags body ≡ request_to_send body d.end = λ i. message_of (s i) (f i) body in
-      let l : w ≡ writes (request_to_send body d.end) (length out) = h.answers ∙ ap (λ (x : Message). writes x (length out)) m in
-      (rw none (o ∙ (λ i. outcome d.end 0 (length_of (l i)) Nothing)), rw none (h.output ∙ ap (λ (x : Message). written x out) m))
+-- a request of an end, whose end after the call is `after`
+module _ (a : Asked) (e after : End) (out : List ℕ) where
+  abbrev pub Requests : Result Step Refusal → List ℕ → Type 0
+  Requests r exit = (told after r ≡ request_of a (length out) e) × (exit ≡ request_output a e out)
+
+  abbrev decides : Result (Unit {0}) Refusal → Type 0
+  decides r = as_decided after r ≡ decided_request a (length out) e
 
   -- refused: its number, and the output as it was
-  pub refuses : (d.answer ≡ 0 → ⊥) → (r : Outcome) → r ≡ outcome d.end d.answer 0 Nothing → Asks d body out r out
-  unfolding concluded_request concluded_request_output
-  refuses some r o =
-      let z : eqb d.answer 0 ≡ false = ne_eqb d.answer 0 some in
-      (rw z o, rw z)
+  pub refuses : (r : Result (Unit {0}) Refusal) → decides r → (refusal : Refusal) → r ≡ Err refusal → Requests (Err refusal) out
+  unfolding request_of request_output concluded_request concluded_request_output
+  refuses r h refusal is =
+      let z = never_0 refusal in
+      let d = rw is at h in
+      (rw (← d, z) refl, rw (← d, z) refl)
+
+  -- granted: its frame is written, by the end as it stands after the call
+  pub grants : (r : Result (Unit {0}) Refusal) → decides r → r ≡ Ok tt → (sender : Sender) (w : Result ℕ Refusal) (s : Step) (exit : List ℕ)
+      → sender ≡ sender_of after → Writing (message_of sender.source sender.flags a.body) out (as_written w) exit
+      → told after (Ok s) ≡ outcome after 0 (length_of (as_written w)) Nothing → Requests (Ok s) exit
+  unfolding request_of request_output concluded_request concluded_request_output request_to_send
+  grants r d is sender w s exit p g o =
+      let h = rw is at d in
+      let m : message_of sender.source sender.flags a.body ≡ request_to_send a.body after = ap (λ (x : Sender). message_of x.source x.flags a.body) p in
+      let l : as_written w ≡ writes (request_to_send a.body after) (length out) = g.answers ∙ ap (λ (x : Message). writes x (length out)) m in (
+        o ∙ ap (λ (x : Written). outcome after 0 (length_of x) Nothing) l ∙ ap (λ (d : Decided). concluded_request d a.body (length out)) h,
+        g.output ∙ ap (λ (x : Message). written x out) m ∙ ap (λ (d : Decided). concluded_request_output d a.body out) h,
+      )
+
+  -- a granted one is formed
+  pub decided_formed : (r : Result (Unit {0}) Refusal) → decides r → r ≡ Ok tt → a.formed ≡ true
+  unfolding decided answer_to request_answer
+  decided_formed r h is =
+      let z = ap (λ (d : Decided). d.answer) (sym h) ∙ ap as_answer is in
+      whether a.formed (λ t. t) (λ f. absurd (omega (arith, rw f at z)))
 
 -- what is not measured is answered alike for two numbers of octets that are alike 0, and alike no more than the output has
 pub unmeasured : (n m : ℕ) (permitted : Bool) (lent : ℕ) (e : End) → ltb 0 n ≡ ltb 0 m → leb n lent ≡ leb m lent
@@ -49,34 +72,10 @@ pub unmeasured : (n m : ℕ) (permitted : Bool) (lent : ℕ) (e : End) → ltb 0
 unfolding answer_to
 unmeasured n m permitted lent e p q = rw (p, q)
 
+-- the octets of a frame, 0 for none, by way of an option
+pub octets_some : (n : ℕ) → octets_in (some_octets n) ≡ n
+octets_some n = whether (eqb n 0) (λ t. rw t (sym (eqb-true n 0 t))) (λ f. rw f)
+
 -- what is formed is written like any other
 pub formed_writing : {formed : Bool} {m : Message} {entry exit : List ℕ} {w : Written} → formed ≡ true → WritingFormed formed m entry w exit → Writing m entry w exit
 formed_writing t h = record { answers = h.answers ∙ rw t; output = h.output ∙ rw t }
-
--- a request of an end, as it is decided
-module _ (a : Asked) (e : End) (out : List ℕ) (d : Decided)
-    (decides : d ≡ decided_request a (length out) e) where
-  abbrev pub Requests : Outcome → List ℕ → Type 0
-  Requests r exit = (r ≡ request_of a (length out) e) × (exit ≡ request_output a e out)
-
-  pub requests : (r : Outcome) (exit : List ℕ) → Asks d a.body out r exit → Requests r exit
-  unfolding request_of request_output
-  requests r exit h = (
-    h.0 ∙ ap (λ (x : Decided). concluded_request x a.body (length out)) decides,
-    h.1 ∙ ap (λ (x : Decided). concluded_request_output x a.body out) decides,
-  )
-
-  -- a granted one is formed
-  pub decided_formed : d.answer ≡ 0 → a.formed ≡ true
-  unfolding decided answer_to request_answer
-  decided_formed none =
-      let z = sym (ap (λ (x : Decided). x.answer) decides) ∙ none in
-      whether a.formed (λ t. t) (λ f. absurd (omega (arith, rw f at z)))
-
-  -- no request changes the settings
-  pub decided_source : a.next.settings ≡ e.settings → e.settings.source ≡ d.end.settings.source
-  unfolding decided granted dues
-  decided_source h =
-      by_cond (λ (x : End). e.settings.source ≡ x.settings.source) (eqb (answer_to (octets_asked a) a.permitted a.measured (length out) e) 0)
-      (λ _. rw h) (λ _. refl)
-      ∙ sym (ap (λ (x : Decided). x.end.settings.source) decides)

@@ -3,13 +3,10 @@ use Rattle.std.specs.Prelude.{ℕ, List, cond, length}
 use Rattle.frame.specs.Frame.{decode}
 use Rattle.link_end.specs.declared.End.{End}
 use Rattle.link_end.specs.declared.News.TheVariants.{Nothing}
-use Rattle.link.specs.declared.Outcome.{Outcome}
 use Rattle.link_end.specs.declared.Heard.{Heard}
-use Rattle.link_end.specs.declared.Said.{Said}
-use Rattle.link_end.specs.declared.Said.TheVariants.{Refusal, Is}
-use Rattle.link_end.specs.Hearing.{said_by}
+use Rattle.link_end.specs.Hearing.{Said, Refusal, Is, said_by}
 use Rattle.link_end.specs.Taking.{taken, taken_due}
-use Rattle.link.specs.Outcomes.{too_short, outcome, concluded, concluded_output}
+use Rattle.link.specs.Outcomes.{Outcome, too_short, outcome, concluded, concluded_output}
 
 unfoldable pub concluded_heard : ℕ → Heard → End → Outcome
 concluded_heard octets m e = concluded octets (taken m e).shown (taken_due m e)

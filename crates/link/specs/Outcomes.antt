@@ -1,14 +1,15 @@
 -- What a call comes to, and the Information frame that is written at its end.
-use Rattle.std.specs.Prelude.{ℕ, List, Bool, cond, ltb}
+use Rattle.std.specs.Prelude.{ℕ, List, Bool, cond, ltb, Result, Ok, Err}
+use Rattle.octets.specs.declared.refusal.Refusal.{Refusal}
+use Rattle.octets.specs.Refusals.{number}
 use Rattle.octets.specs.Layout.{shortest_frame}
 use Rattle.frame.specs.Frame.{Message, information}
-use Rattle.frame_writer.specs.Writing.{writes, written, message_of, parts_of}
-use Rattle.frame_writer.specs.declared.Written.{Written}
-use Rattle.frame_writer.specs.declared.Written.TheVariants.{Refused, Wrote}
+use Rattle.frame_writer.specs.Writing.{Written, Refused, Wrote, writes, written, message_of, parts_of}
 use Rattle.link_loopback.specs.Roles.{octet_of}
 use Rattle.link_end.specs.declared.End.{End}
 use Rattle.link_end.specs.declared.News.{News}
-use Rattle.link.specs.declared.Outcome.{Outcome}
+use Rattle.link_end.specs.declared.News.TheVariants.{Nothing}
+use Rattle.link.specs.declared.Step.{Step}
 use Rattle.link_end.specs.Sending.{flags_to_send, sends, sent, tlvs_to_send}
 
 unfoldable pub information_to_send : End → Message
@@ -18,9 +19,21 @@ abbrev pub length_of : Written → ℕ
 length_of (Refused n) = 0
 length_of (Wrote n) = n
 
--- an outcome: the next end, the answer, the written length, its State octet, what is shown
+-- what a call comes to: the next end, the answer (0 where it is accepted), the written length, its State octet, what is shown
+pub record Outcome : Type 0 where
+  pub end : End
+  pub answer : ℕ
+  pub length : ℕ
+  pub octet : ℕ
+  pub shown : News
+
 abbrev pub outcome : End → ℕ → ℕ → News → Outcome
 outcome e answer n shown = record { end = e; answer = answer; length = n; octet = octet_of e.role; shown = shown }
+
+-- the same by the end after the call and its answer
+abbrev pub told : End → Result Step Refusal → Outcome
+told e (Ok s) = outcome e 0 s.length s.shown
+told e (Err r) = outcome e (number r) 0 Nothing
 
 -- "Receive, tick and report test 9 first, against 60 octets."
 abbrev pub too_short : ℕ → Bool
@@ -33,7 +46,3 @@ concluded octets shown e =
 
 unfoldable pub concluded_output : End → List ℕ → List ℕ
 concluded_output e out = cond (sends e) (written (information_to_send e) out) out
-
--- how the code comes to it: the length of the owed frame, 0 where it is not written
-abbrev pub owed_length : ℕ → End → ℕ
-owed_length octets e = cond (sends e) (length_of (writes (information_to_send e) octets)) 0

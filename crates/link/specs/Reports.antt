@@ -3,8 +3,7 @@ use Rattle.std.specs.Prelude.{ℕ, List, cond, length}
 use Rattle.link_end.specs.declared.End.{End}
 use Rattle.link_end.specs.declared.Report.{Report}
 use Rattle.link_end.specs.declared.News.TheVariants.{Nothing}
-use Rattle.link.specs.declared.Outcome.{Outcome}
-use Rattle.link.specs.Outcomes.{too_short, outcome, concluded, concluded_output}
+use Rattle.link.specs.Outcomes.{Outcome, too_short, outcome, concluded, concluded_output}
 use Rattle.link_end.specs.Reporting.{reported_due}
 
 unfoldable pub report_of : Report → ℕ → End → Outcome

@@ -6,12 +6,10 @@ use Rattle.frame_writer.specs.Plain.{sized}
 use Rattle.frame_writer.specs.Writing.{writes, written, message_of, events_of}
 use Rattle.octets.specs.Bits.{bit}
 use Rattle.link_end.specs.declared.End.{End}
-use Rattle.link_end.specs.declared.Decided.{Decided}
 use Rattle.link_end.specs.declared.News.TheVariants.{Nothing}
-use Rattle.link.specs.declared.Outcome.{Outcome}
 use Rattle.link_end.specs.Sending.{flags_to_send}
-use Rattle.link.specs.Outcomes.{length_of, outcome}
-use Rattle.link_end.specs.Granting.{answer_to, decided, numbered, start_allowed, started, stop_allowed, stopped, response_allowed, smaller_maximum}
+use Rattle.link.specs.Outcomes.{Outcome, length_of, outcome}
+use Rattle.link_end.specs.Granting.{Decided, answer_to, decided, numbered, start_allowed, started, stop_allowed, stopped, response_allowed, smaller_maximum}
 
 -- a request: whether the role, the mode and the peer's capability allow it, whether it is measured against the two maximum sizes,
 -- what it makes of the end, the body of its frame, and whether what that was made of is in range

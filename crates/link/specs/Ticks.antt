@@ -2,8 +2,7 @@
 use Rattle.std.specs.Prelude.{ℕ, List, cond, length}
 use Rattle.link_end.specs.declared.End.{End}
 use Rattle.link_end.specs.declared.News.TheVariants.{Nothing}
-use Rattle.link.specs.declared.Outcome.{Outcome}
-use Rattle.link.specs.Outcomes.{too_short, outcome, concluded, concluded_output}
+use Rattle.link.specs.Outcomes.{Outcome, too_short, outcome, concluded, concluded_output}
 use Rattle.link_end.specs.Ticking.{ticked_due}
 
 unfoldable pub tick_of : ℕ → End → Outcome

@@ -1,8 +1,7 @@
 // The link machine: the calls that step one end of an OAM link.
 //
-// A call takes the end by value and gives an outcome: the next end, the answer (0 accepted, else the paper's number), the
-// length of the frame that was written into the lent output (0 for none), the State octet with the parser and multiplexer
-// actions, and what is shown. A refusal gives the same end and leaves the output as it was.
+// A call steps the end where it stands, and says the length of the frame that it wrote into the lent output (0 for none) and
+// what is shown. A refusal leaves the end and the output as they were.
 #![tactic(auto)]
 
 mod concluding;
@@ -12,16 +11,14 @@ mod requesting;
 mod ticking;
 
 pub use hearing::receive;
-use link_end::{End, News};
+use link_end::News;
 pub use reporting::take_report;
 pub use requesting::{notify, request_variables, respond, send_organization, start, stop};
 pub use ticking::tick;
 
-#[derive(Clone, Copy, Drop)]
-pub struct Outcome {
-    pub end: End,
-    pub answer: u8,
+// What a call comes to that is not refused: the length of the frame written, 0 for none, and what is shown.
+#[derive(Clone, Copy)]
+pub struct Step {
     pub length: usize,
-    pub octet: u8,
     pub shown: News,
 }

@@ -1,19 +1,21 @@
 // Reports of the optics and of the box.
 ghost use Rattle.std.specs.Prelude.{◌≡◌, length};
+ghost use Rattle.link.specs.Outcomes.{told};
 ghost use Rattle.link.specs.Reports.{report_of, report_output};
 
-use crate::Outcome;
-use crate::concluding::{outcome, too_short, write_owed};
+use crate::Step;
+use crate::concluding::{conclude, too_short};
 use link_end::{End, News, Report};
+use octets::Refusal;
 
-// One report.
-pub fn take_report(e: End, report: Report, out: &mut [u8]) -> Outcome
-    ensures { (result ≡ report_of report (length out.old) e) × (out.new ≡ report_output report e out.old) }
+// One report; `ShortOutput` for an output of under 60 octets.
+#[tactic(auto, unfolding(crate::specs::Reports::report_of, crate::specs::Reports::report_output))]
+pub fn take_report(end: &mut End, report: Report, out: &mut [u8]) -> Result<Step, Refusal>
+    ensures { (told end.new result ≡ report_of report (length out.old) end.old) × (out.new ≡ report_output report end.old out.old) }
 {
     if too_short(out.len()) {
-        return outcome(e, 9, 0, News::Nothing);
+        return Err(Refusal::ShortOutput);
     }
-    let next = link_end::report_due(e, report);
-    let length = write_owed(next, out);
-    outcome(link_end::after_sending(next), 0, length, News::Nothing)
+    end.report(report);
+    Ok(conclude(end, News::Nothing, out))
 }

@@ -1,153 +1,99 @@
 // The six requests. None of them writes an owed Information frame: the next tick, receive or report does.
-ghost use Rattle.std.specs.Prelude.{◌≡◌, length};
-ghost use Rattle.frame.specs.Frame.{loopback};
-ghost use Rattle.link.specs.Outcomes.{length_of, outcome};
-ghost use Rattle.link.specs.Requests.{starting, stopping, requesting, notifying, telling, responding, concluded_request, concluded_request_output, request_of, request_output};
+//
+// The tests of a request, in their order: its values are in range (else `OutOfRange`), discovery is in SEND_ANY (`NotInSendAny`), the
+// role, the mode and the peer's capability allow it (`Forbidden`), its frame is within both maximum sizes (`ExceedsMaximum`), fewer
+// than ten frames are written (`TenFramesWritten`), and the output has room for it (`ShortOutput`).
+ghost use Rattle.std.specs.Prelude.{◌≡◌, length, Ok};
+ghost use Rattle.frame_writer.specs.Writing.{as_written};
+ghost use Rattle.link_end.specs.declared.News.TheVariants.{Nothing};
+ghost use Rattle.link.specs.Outcomes.{length_of, outcome, told};
+ghost use Rattle.link.specs.Requests.{starting, stopping, requesting, notifying, telling, responding, request_of, request_output};
 
-use crate::Outcome;
-use crate::concluding::{length_of, outcome};
-use frame_writer::Written;
-use link_end::{Decided, End, News};
+use crate::Step;
+use link_end::{End, News};
+use octets::Refusal;
 
-fn refuse(e: End, answer: u8) -> Outcome
-    ensures { result ≡ outcome e answer 0 News.Nothing }
+// The loopback commands.
+const ENABLE: u8 = 1;
+
+const DISABLE: u8 = 2;
+
+// What a granted request comes to. (A writer refuses none of an end that keeps to its ranges.)
+fn sent(written: Result<usize, Refusal>) -> Step
+    ensures { (e : End) → told e (Ok result) ≡ outcome e 0 (length_of (as_written written)) Nothing }
 {
-    outcome(e, answer, 0, News::Nothing)
-}
-
-fn send(e: End, written: Written) -> Outcome
-    ensures { result ≡ outcome e 0 (length_of written) News.Nothing }
-{
-    outcome(e, 0, length_of(written), News::Nothing)
-}
-
-// A loopback command that is decided.
-fn conclude_loopback(decided: Decided, command: u8, out: &mut [u8]) -> Outcome
-    ensures { (result ≡ concluded_request decided (loopback command) (length out.old)) × (out.new ≡ concluded_request_output decided (loopback command) out.old) }
-{
-    let after = decided.end;
-    if decided.answer == 0 {
-        let settings = after.settings();
-        let written = frame_writer::write_loopback(
-            settings.source,
-            link_end::flags_to_send(after),
-            command,
-            out,
-        );
-        return send(after, written);
+    Step {
+        length: written.unwrap_or(0),
+        shown: News::Nothing,
     }
-    refuse(after, decided.answer)
 }
 
 // Starts a remote loopback.
-pub fn start(e: End, out: &mut [u8]) -> Outcome
-    ensures { (result ≡ request_of (starting e) (length out.old) e) × (out.new ≡ request_output (starting e) e out.old) }
+pub fn start(end: &mut End, out: &mut [u8]) -> Result<Step, Refusal>
+    ensures { (told end.new result ≡ request_of (starting end.old) (length out.old) end.old) × (out.new ≡ request_output (starting end.old) end.old out.old) }
 {
-    conclude_loopback(link_end::grant_start(e, out.len()), 1, out)
+    end.start(out.len())?;
+    Ok(sent(frame_writer::write_loopback(end.sender(), ENABLE, out)))
 }
 
 // Stops a remote loopback.
-pub fn stop(e: End, out: &mut [u8]) -> Outcome
-    ensures { (result ≡ request_of (stopping e) (length out.old) e) × (out.new ≡ request_output (stopping e) e out.old) }
+pub fn stop(end: &mut End, out: &mut [u8]) -> Result<Step, Refusal>
+    ensures { (told end.new result ≡ request_of (stopping end.old) (length out.old) end.old) × (out.new ≡ request_output (stopping end.old) end.old out.old) }
 {
-    conclude_loopback(link_end::grant_stop(e, out.len()), 2, out)
+    end.stop(out.len())?;
+    Ok(sent(frame_writer::write_loopback(end.sender(), DISABLE, out)))
 }
 
 // Asks for the peer's variables. A descriptor is one number, the branch above the leaf's sixteen bits.
-pub fn request_variables(e: End, descriptors: &[u32], out: &mut [u8]) -> Outcome
-    ensures { (result ≡ request_of (requesting descriptors.now e) (length out.old) e) × (out.new ≡ request_output (requesting descriptors.now e) e out.old) }
+pub fn request_variables(
+    end: &mut End,
+    descriptors: &[u32],
+    out: &mut [u8],
+) -> Result<Step, Refusal>
+    ensures { (told end.new result ≡ request_of (requesting descriptors.now end.old) (length out.old) end.old) × (out.new ≡ request_output (requesting descriptors.now end.old) end.old out.old) }
 {
-    let settings = e.settings();
     let octets = frame_writer::request_octets(descriptors);
-    let permitted = link_peer::is_active(settings.configuration);
-    let decided = link_end::grant_frame(octets, permitted, out.len(), e);
-    let after = decided.end;
-    if decided.answer == 0 {
-        let source = settings.source;
-        let written = frame_writer::write_request(
-            source,
-            link_end::flags_to_send(after),
-            descriptors,
-            out,
-        );
-        return send(after, written);
-    }
-    refuse(after, decided.answer)
+    end.grant_frame(octets, end.settings().is_active(), out.len())?;
+    Ok(sent(frame_writer::write_request(end.sender(), descriptors, out)))
 }
 
 // Notifies the peer of events, each seven numbers: its type and its six values.
-pub fn notify(e: End, events: &[u64], out: &mut [u8]) -> Outcome
-    ensures { (result ≡ request_of (notifying events.now e) (length out.old) e) × (out.new ≡ request_output (notifying events.now e) e out.old) }
+pub fn notify(end: &mut End, events: &[u64], out: &mut [u8]) -> Result<Step, Refusal>
+    ensures { (told end.new result ≡ request_of (notifying events.now end.old) (length out.old) end.old) × (out.new ≡ request_output (notifying events.now end.old) end.old out.old) }
 {
-    let settings = e.settings();
-    let own = e.own();
-    let octets = frame_writer::notification_octets(own.number, events);
-    let decided = link_end::grant_number(octets, out.len(), e);
-    let after = decided.end;
-    if decided.answer == 0 {
-        let source = settings.source;
-        let written = frame_writer::write_notification(
-            source,
-            link_end::flags_to_send(after),
-            own.number,
-            events,
-            out,
-        );
-        return send(after, written);
-    }
-    refuse(after, decided.answer)
+    let number = end.own().number;
+    let octets = frame_writer::notification_octets(number, events);
+    end.grant_number(octets, out.len())?;
+    Ok(sent(frame_writer::write_notification(end.sender(), number, events, out)))
 }
 
 // Sends an organization's data with its OUI.
-pub fn send_organization(e: End, oui: u32, octets: &[u8], out: &mut [u8]) -> Outcome
-    ensures { (result ≡ request_of (telling oui octets.now e) (length out.old) e) × (out.new ≡ request_output (telling oui octets.now e) e out.old) }
+pub fn send_organization(
+    end: &mut End,
+    oui: u32,
+    octets: &[u8],
+    out: &mut [u8],
+) -> Result<Step, Refusal>
+    ensures { (told end.new result ≡ request_of (telling oui octets.now end.old) (length out.old) end.old) × (out.new ≡ request_output (telling oui octets.now end.old) end.old out.old) }
 {
-    let settings = e.settings();
     let size = frame_writer::organization_octets(oui, octets);
-    let decided = link_end::grant_frame(size, true, out.len(), e);
-    let after = decided.end;
-    if decided.answer == 0 {
-        let source = settings.source;
-        let written = frame_writer::write_organization(
-            source,
-            link_end::flags_to_send(after),
-            oui,
-            octets,
-            out,
-        );
-        return send(after, written);
-    }
-    refuse(after, decided.answer)
+    end.grant_frame(size, true, out.len())?;
+    Ok(sent(frame_writer::write_organization(end.sender(), oui, octets, out)))
 }
 
 // Answers descriptors by the attributes that the box holds: two numbers each, descriptor and width, and their values one after
 // another.
 pub fn respond(
-    e: End,
+    end: &mut End,
     attributes: &[u32],
     values: &[u8],
     descriptors: &[u32],
     out: &mut [u8],
-) -> Outcome
-    ensures { (result ≡ request_of (responding attributes.now values.now descriptors.now e) (length out.old) e) × (out.new ≡ request_output (responding attributes.now values.now descriptors.now e) e out.old) }
+) -> Result<Step, Refusal>
+    ensures { (told end.new result ≡ request_of (responding attributes.now values.now descriptors.now end.old) (length out.old) end.old) × (out.new ≡ request_output (responding attributes.now values.now descriptors.now end.old) end.old out.old) }
 {
-    let settings = e.settings();
-    let size = link_end::smaller_maximum(e);
-    let lent = out.len();
-    let needed = frame_writer::needed_octets(lent, size, attributes, values, descriptors);
-    let decided = link_end::grant_response(needed, lent, e);
-    let after = decided.end;
-    if decided.answer == 0 {
-        let written = frame_writer::write_answers(
-            settings.source,
-            link_end::flags_to_send(after),
-            size,
-            attributes,
-            values,
-            descriptors,
-            out,
-        );
-        return send(after, written);
-    }
-    refuse(after, decided.answer)
+    let size = end.smaller_maximum();
+    let needed = frame_writer::needed_octets(out.len(), size, attributes, values, descriptors);
+    end.grant_response(needed, out.len())?;
+    Ok(sent(frame_writer::write_answers(end.sender(), size, attributes, values, descriptors, out)))
 }

@@ -1,19 +1,21 @@
 // Ticks.
 ghost use Rattle.std.specs.Prelude.{◌≡◌, length};
+ghost use Rattle.link.specs.Outcomes.{told};
 ghost use Rattle.link.specs.Ticks.{tick_of, tick_output};
 
-use crate::Outcome;
-use crate::concluding::{outcome, too_short, write_owed};
+use crate::Step;
+use crate::concluding::{conclude, too_short};
 use link_end::{End, News};
+use octets::Refusal;
 
-// One tick of 100 ms.
-pub fn tick(e: End, out: &mut [u8]) -> Outcome
-    ensures { (result ≡ tick_of (length out.old) e) × (out.new ≡ tick_output e out.old) }
+// One tick of 100 ms. An output of under 60 octets is refused as `ShortOutput`, as by a report and a receive.
+#[tactic(auto, unfolding(crate::specs::Ticks::tick_of, crate::specs::Ticks::tick_output))]
+pub fn tick(end: &mut End, out: &mut [u8]) -> Result<Step, Refusal>
+    ensures { (told end.new result ≡ tick_of (length out.old) end.old) × (out.new ≡ tick_output end.old out.old) }
 {
     if too_short(out.len()) {
-        return outcome(e, 9, 0, News::Nothing);
+        return Err(Refusal::ShortOutput);
     }
-    let next = link_end::ticked_due(e);
-    let length = write_owed(next, out);
-    outcome(link_end::after_sending(next), 0, length, News::Nothing)
+    end.tick();
+    Ok(conclude(end, News::Nothing, out))
 }

@@ -6,44 +6,32 @@
 
 ghost use Rattle.std.specs.Prelude.{◌≡◌, length};
 ghost use Rattle.link.specs.Ticks.{tick_output};
-ghost use Rattle.link_counting.specs.Counting.{uncounted, counted_tick};
+ghost use Rattle.link_counting.specs.Counting.{told_tick, counted_tick};
 
-use link::Outcome;
+use link::Step;
 use link_end::End;
-use link_windows::{Arisen, Counted, Watch};
+use link_windows::{Arisen, Watch};
+use octets::Refusal;
 
-// What such a tick comes to: the end's outcome, the watch after it, and what arose.
-#[derive(Drop)]
-pub struct CountedTick {
-    pub outcome: Outcome,
-    pub counted: Counted,
+// What such a tick comes to that is not refused: the end's step, and what arose.
+#[derive(Clone, Copy)]
+pub struct Ticked {
+    pub step: Step,
+    pub arisen: Arisen,
 }
 
-// A refused tick takes no count.
-fn uncounted(watch: Watch) -> Counted
-    ensures { result ≡ uncounted watch }
-{
-    Counted {
-        watch: watch,
-        frames: Arisen::Nothing,
-        seconds: Arisen::Nothing,
-    }
-}
-
-// One tick of 100 ms with its count of bad frames.
+// One tick of 100 ms with its count of bad frames. A refused one (`ShortOutput`, for an output of under 60 octets) takes no count,
+// and leaves the watch as it leaves the end.
 #[tactic(auto, unfolding(crate::specs::Counting::counted_tick))]
-pub fn counted_tick(e: End, watch: Watch, count: u64, out: &mut [u8]) -> CountedTick
-    ensures { (result ≡ counted_tick (length out.old) e watch count) × (out.new ≡ tick_output e out.old) }
+pub fn counted_tick(
+    end: &mut End,
+    watch: &mut Watch,
+    count: u64,
+    out: &mut [u8],
+) -> Result<Ticked, Refusal>
+    ensures { (told_tick end.new watch.new result ≡ counted_tick (length out.old) end.old watch.old count) × (out.new ≡ tick_output end.old out.old) }
 {
-    let outcome = link::tick(e, out);
-    if outcome.answer == 0 {
-        return CountedTick {
-            outcome: outcome,
-            counted: link_windows::take_count(watch, count),
-        };
-    }
-    CountedTick {
-        outcome: outcome,
-        counted: uncounted(watch),
-    }
+    let step = link::tick(end, out)?;
+    let arisen = watch.take_count(count);
+    Ok(Ticked { step, arisen })
 }

@@ -1,13 +1,9 @@
 -- What is to be sent.
-use Rattle.std.specs.Prelude.{ℕ, ◌%◌, Bool, true, false, not, ◌&&◌}
+use Rattle.std.specs.Prelude.{ℕ, ◌%◌, Bool, true, false, not, ◌&&◌, Option, None, Some}
 use Rattle.frame_body.specs.declared.Information.{Information}
-use Rattle.frame_body.specs.declared.Held.{Held}
-use Rattle.frame_body.specs.declared.Held.TheVariants.{Nothing, Is}
 use Rattle.link_discovery.specs.declared.Discovery.{Discovery}
 use Rattle.link_discovery.specs.declared.Discovery.TheVariants.{Fault, ActiveSendLocal, PassiveWait, SendLocalRemote, SendLocalRemoteOk, SendAny}
 use Rattle.link_loopback.specs.declared.Role.{Role}
-use Rattle.link_peer.specs.declared.Record.{Record}
-use Rattle.link_peer.specs.declared.Record.TheVariants.{Absent, Of}
 use Rattle.link_peer.specs.declared.Settings.{Settings}
 use Rattle.octets.specs.Bits.{bit}
 use Rattle.link_loopback.specs.Roles.{octet_of}
@@ -22,9 +18,9 @@ local_field SendLocalRemoteOk = 2
 local_field SendAny = 2
 
 -- "Remote field sent: the kept peer field", and 0 while no record is held (001, Table 57-3)
-unfoldable pub remote_field : ℕ → Record → ℕ
-remote_field kept Absent = 0
-remote_field kept (Of i) = kept
+unfoldable pub remote_field : ℕ → Option Information → ℕ
+remote_field kept None = 0
+remote_field kept (Some i) = kept
 
 -- "FAULT with the link down if unidirectional (link fault flag, set only there, no TLV)"
 unfoldable pub fault_flag : Bool → ℕ → Bool
@@ -65,6 +61,6 @@ cleared_information i =
       vendor = i.vendor;
     }
 
-unfoldable pub cleared_record : Record → Held
-cleared_record Absent = Nothing
-cleared_record (Of i) = Is (cleared_information i)
+unfoldable pub cleared_record : Option Information → Option Information
+cleared_record None = None
+cleared_record (Some i) = Some (cleared_information i)

@@ -7,15 +7,14 @@
 mod sending;
 mod standing;
 
-pub use sending::{
-    allowed_in, cleared_record, fault_flag, local_field, own_information, remote_field,
-};
-pub use standing::{is_any, is_lost, role_in, stands_at};
+pub use sending::{cleared_record, fault_flag, own_information, remote_field};
+pub use standing::{Seen, is_lost};
 
 // The lost-link count that enters FAULT.
 pub const LOST_COUNT: u8 = 50;
 
-#[derive(Clone, Copy, Drop)]
+// Where discovery stands: the states of Figure 57-5 of the standard, in its names.
+#[derive(Clone, Copy, PartialEq, Eq)]
 pub enum Discovery {
     Fault,
     ActiveSendLocal,

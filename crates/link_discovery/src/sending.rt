@@ -3,32 +3,40 @@ ghost use Rattle.std.specs.Prelude.{◌≡◌};
 ghost use Rattle.link_discovery.specs.Sending.{local_field, remote_field, fault_flag, allowed_in, own_information, cleared_information, cleared_record};
 
 use crate::Discovery;
-use frame_body::{Held, Information};
+use frame_body::Information;
 use link_loopback::Role;
-use link_peer::{Record, Settings};
+use link_peer::Settings;
 
-pub fn local_field(discovery: Discovery) -> u16
-    ensures { result ≡ local_field discovery }
-{
-    match discovery {
-        Discovery::Fault => 0,
-        Discovery::ActiveSendLocal => 1,
-        Discovery::PassiveWait => 0,
-        Discovery::SendLocalRemote => 0,
-        Discovery::SendLocalRemoteOk => 2,
-        Discovery::SendAny => 2,
+impl Discovery {
+    // The local field of the flags.
+    pub fn local_field(self) -> u16
+        ensures { result ≡ local_field self }
+    {
+        match self {
+            Discovery::Fault | Discovery::PassiveWait | Discovery::SendLocalRemote => 0,
+            Discovery::ActiveSendLocal => 1,
+            Discovery::SendLocalRemoteOk | Discovery::SendAny => 2,
+        }
+    }
+
+    // Whether an Information frame is allowed, by whether the link-fault flag is set.
+    pub fn allows(self, fault: bool) -> bool
+        ensures { result ≡ allowed_in self fault }
+    {
+        match self {
+            Discovery::Fault => fault,
+            Discovery::PassiveWait => false,
+            _ => true,
+        }
     }
 }
 
 // The kept field while a record is held, else 0 (001, Table 57-3).
 #[tactic(auto, unfolding(crate::specs::Sending::remote_field))]
-pub fn remote_field(kept: u16, held: Record) -> u16
+pub fn remote_field(kept: u16, held: Option<Information>) -> u16
     ensures { result ≡ remote_field kept held }
 {
-    match held {
-        Record::Absent => 0,
-        Record::Of(_) => kept,
-    }
+    if held.is_some() { kept } else { 0 }
 }
 
 // FAULT with the link down, if unidirectional.
@@ -36,23 +44,7 @@ pub fn remote_field(kept: u16, held: Record) -> u16
 pub fn fault_flag(up: bool, configuration: u8) -> bool
     ensures { result ≡ fault_flag up configuration }
 {
-    if up {
-        return false;
-    }
-    link_peer::is_unidirectional(configuration)
-}
-
-pub fn allowed_in(discovery: Discovery, fault: bool) -> bool
-    ensures { result ≡ allowed_in discovery fault }
-{
-    match discovery {
-        Discovery::Fault => fault,
-        Discovery::ActiveSendLocal => true,
-        Discovery::PassiveWait => false,
-        Discovery::SendLocalRemote => true,
-        Discovery::SendLocalRemoteOk => true,
-        Discovery::SendAny => true,
-    }
+    !up && link_peer::is_unidirectional(configuration)
 }
 
 // The Local TLV.
@@ -62,7 +54,7 @@ pub fn own_information(settings: Settings, revision: u16, role: Role) -> Informa
 {
     Information {
         version: 1,
-        revision: revision,
+        revision,
         state: role.octet(),
         configuration: settings.configuration,
         oampdu: settings.size,
@@ -85,11 +77,8 @@ fn cleared_information(i: Information) -> Information
 
 // The Remote TLV: the peer record's fields with the ignored bits zero.
 #[tactic(auto, unfolding(crate::specs::Sending::cleared_record))]
-pub fn cleared_record(held: Record) -> Held
+pub fn cleared_record(held: Option<Information>) -> Option<Information>
     ensures { result ≡ cleared_record held }
 {
-    match held {
-        Record::Absent => Held::Nothing,
-        Record::Of(i) => Held::Is(cleared_information(i)),
-    }
+    held.map(cleared_information)
 }

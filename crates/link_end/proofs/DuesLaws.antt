@@ -1,5 +1,5 @@
 -- What is owed at the end of a call, where discovery is taken once and the flags are compared only where they can have changed.
-use mathlib.Core.Path.{◌≡◌, refl, sym, ap}
+use mathlib.Core.Path.{◌≡◌, refl, sym, ap, ◌∙◌}
 use mathlib.Core.Bool.{Bool, true, false, cond, not, ◌||◌}
 use borrow.Author.Tests.{eq-eqb}
 use lib.Dec.{eqb}
@@ -8,17 +8,31 @@ use Rattle.octets.proofs.Bools.{whether}
 use Rattle.link_discovery.specs.Standing.{is_any, is_lost}
 use Rattle.link_end.specs.declared.End.{End}
 use Rattle.link_end.specs.declared.Heard.{Heard}
-use Rattle.link_end.specs.declared.Taken.{Taken}
 use Rattle.link_end.specs.declared.News.TheVariants.{Frame}
 use Rattle.link_end.specs.Parts.{with_own, discovery_of, in_any, faulted, settled_in, settled}
-use Rattle.link_end.specs.Sending.{fault_flag_of, flags_to_send, allowed, changed, dues}
+use Rattle.link_end.specs.Sending.{fault_flag_of, flags_to_send, allowed, changed, octet_changed, own_in, dues}
+use Rattle.link_discovery.specs.Sending.{allowed_in}
+use Rattle.link_limit.specs.Limit.{closes}
 use Rattle.link_end.specs.Ticking.{missed, losing, ticked_in, own_ticked, ticked, ticked_due}
-use Rattle.link_end.specs.Taking.{known, learned, acted, taken_up, taken, due_taken, taken_in_any, taken_elsewhere, taken_whole}
+use Rattle.link_end.specs.Taking.{Taken, known, learned, acted, taken_up, taken, due_taken, taken_in_any, taken_elsewhere, taken_whole}
 
 -- flags that are the same tell nothing
 same_tells : (b : Bool) (n : ℕ) → (b || not (eqb n n)) ≡ b
 same_tells true n = refl
 same_tells false n = rw (eq-eqb n n refl)
+
+-- a tick that does not lose the link: the flags are as they were
+abbrev octet_told : End → End → End
+octet_told before e =
+    let octet = octet_changed before.role e.role in
+    with_own (own_in (allowed_in (discovery_of e) (fault_flag_of e)) octet octet (closes before.meter) e.own) e
+
+pub kept_lem : (e : End) → losing e ≡ false → octet_told e (ticked e) ≡ ticked_due e
+unfolding ticked_due ticked settled missed faulted losing dues changed allowed flags_to_send discovery_of fault_flag_of
+kept_lem e kept =
+    whether e.link.up
+    (λ up. let near : is_lost e.link.lost ≡ false = ap (λ (b : Bool). cond b (is_lost e.link.lost) false) (sym up) ∙ kept in simp (up, near, same_tells))
+    (λ down. simp (down, same_tells))
 
 -- a tick: the flags can have changed only where the link is lost
 abbrev ticks_once : End → End

@@ -3,11 +3,10 @@ use Prim.Native.Nat.{ℕ}
 use mathlib.Core.Path.{◌≡◌, refl, ap}
 use mathlib.Core.List.{List}
 use Rattle.frame.specs.Frame.{Body, information, notification, request, response, loopback, organization, Message, code_of, accepted, decode, judgement_of}
-use Rattle.frame.specs.declared.Judgement.TheVariants.{Refused, Accepted}
+use Rattle.frame.specs.Judgement.{Refused, Accepted}
 use Rattle.frame.proofs.Judging.{judged_accepted, judged_refused, event_number_agrees, command_agrees}
 use Rattle.link_end.specs.declared.Action.TheVariants.{Notify, Command}
-use Rattle.link_end.specs.declared.Said.TheVariants.{Refusal, Is}
-use Rattle.link_end.specs.Hearing.{action_of, said_by, action_by, heard_at}
+use Rattle.link_end.specs.Hearing.{Is, Refusal, action_of, said_by, action_by, heard_at}
 
 module _ (f : List ℕ) where
   action_is : (m : Message) → decode f ≡ accepted m → (b : Body) → m.body ≡ b → action_by f (code_of b) ≡ action_of b

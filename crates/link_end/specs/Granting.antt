@@ -1,20 +1,34 @@
 -- What a request makes of an end, and the answer to it.
-use Rattle.std.specs.Prelude.{ℕ, min, Bool, true, false, cond, not, ◌||◌, ltb, leb, eqb}
+use Rattle.std.specs.Prelude.{ℕ, min, Bool, true, false, cond, not, ◌||◌, ltb, leb, eqb, Option, None, Some, Result}
+use Rattle.octets.specs.declared.refusal.Refusal.{Refusal}
 use Rattle.octets.specs.Layout.{shortest_frame}
 use Rattle.link_peer.specs.Peers.{may_respond, peer_maximum}
+use Rattle.octets.specs.Refusals.{as_answer}
 use Rattle.link_limit.specs.Tests.{fits_both, request_answer}
 use Rattle.link_limit.specs.Limit.{has_room, charged_meter}
 use Rattle.link_limit.specs.Owing.{following}
 use Rattle.link_loopback.specs.Loopback.{may_start, may_stop}
 use Rattle.link_loopback.specs.declared.Role.TheVariants.{Asking, Ending}
 use Rattle.link_end.specs.declared.End.{End}
-use Rattle.link_end.specs.declared.Decided.{Decided}
 use Rattle.link_end.specs.Parts.{with_role, with_meter, with_own, with_number, in_any}
 use Rattle.link_end.specs.Sending.{dues}
+
+-- what is decided of a request: the answer, 0 where it is granted, and the end after it; and the code's answer as it
+pub record Decided : Type 0 where
+  pub answer : ℕ
+  pub end : End
+
+abbrev pub as_decided : End → Result (Unit {0}) Refusal → Decided
+as_decided e r = record { answer = as_answer r; end = e }
 
 -- "The event number sent does the same at each notification": this one carries the present number
 abbrev pub numbered : End → End
 numbered e = with_own (with_number (following e.own.number) e.own) e
+
+-- the octets of a frame, 0 for none
+abbrev pub octets_in : Option ℕ → ℕ
+octets_in None = 0
+octets_in (Some n) = n
 
 -- the answer to a request for a frame of some octets (0 where its values are out of range), by the lent output's length; where it is
 -- not measured against the two sizes 12 is never given

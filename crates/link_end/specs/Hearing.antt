@@ -1,13 +1,13 @@
 -- What is heard of a frame.
-use Rattle.std.specs.Prelude.{ℕ, List, cond, eqb, drop}
+use Rattle.std.specs.Prelude.{ℕ, List, cond, eqb, drop, Result, Ok, Err}
+use Rattle.octets.specs.declared.refusal.Refusal.{Refusal as Reason}
+use Rattle.octets.specs.Refusals.{number}
 use Rattle.octets.specs.Layout.{body_start}
 use Rattle.frame_body.specs.Judging.{local_at}
 use Rattle.frame.specs.Frame.{Body, information, notification, request, response, loopback, organization, Message, Answer, refused, accepted, header_in, header_of, event_number, command_of, local_of}
 use Rattle.link_end.specs.declared.Action.{Action}
 use Rattle.link_end.specs.declared.Action.TheVariants.{Inform, Notify, Command, Other}
 use Rattle.link_end.specs.declared.Heard.{Heard}
-use Rattle.link_end.specs.declared.Said.{Said}
-use Rattle.link_end.specs.declared.Said.TheVariants.{Refusal, Is}
 
 -- what a body asks of the machine
 abbrev pub action_of : Body → Action
@@ -22,7 +22,15 @@ action_of (organization oui x) = Other
 abbrev pub heard_of : Message → Heard
 heard_of m = record { header = header_in m; local = local_of m.body; action = action_of m.body }
 
--- what a frame says to the machine: why it is refused, or what is heard of it
+-- what a frame says to the machine: why it is refused, or what is heard of it; and the code's answer as it
+pub data Said : Type 0 where
+  Refusal : ℕ → Said
+  Is : Heard → Said
+
+abbrev pub as_said : Result Heard Reason → Said
+as_said (Ok m) = Is m
+as_said (Err r) = Refusal (number r)
+
 abbrev pub said_by : Answer → Said
 said_by (refused n) = Refusal n
 said_by (accepted m) = Is (heard_of m)

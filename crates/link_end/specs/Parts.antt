@@ -1,7 +1,8 @@
 -- The parts of an end, one part or one field of a part put anew, and where discovery stands.
-use Rattle.std.specs.Prelude.{ℕ, Bool, false, cond, eqb}
-use Rattle.link_peer.specs.declared.Record.{Record}
-use Rattle.link_peer.specs.declared.Record.TheVariants.{Absent}
+use Rattle.frame_body.specs.declared.Information.{Information}
+use Rattle.std.specs.Prelude.{ℕ, Bool, false, cond, eqb, Option, None, Result, Ok, Err}
+use Rattle.octets.specs.declared.refusal.Refusal.{Refusal}
+use Rattle.octets.specs.Refusals.{number}
 use Rattle.link_peer.specs.declared.Settings.{Settings}
 use Rattle.link_discovery.specs.declared.Discovery.{Discovery}
 use Rattle.link_loopback.specs.declared.Role.{Role}
@@ -13,13 +14,9 @@ use Rattle.link_peer.specs.Peers.{is_held, satisfied}
 use Rattle.link_discovery.specs.Standing.{stands_at, is_any, role_in}
 use Rattle.link_limit.specs.Limit.{new_meter}
 use Rattle.link_end.specs.declared.Link.{Link}
-use Rattle.link_end.specs.declared.Last.{Last}
-use Rattle.link_end.specs.declared.Last.TheVariants.{Never}
 use Rattle.link_end.specs.declared.Peer.{Peer}
 use Rattle.link_end.specs.declared.Own.{Own}
 use Rattle.link_end.specs.declared.End.{End}
-use Rattle.link_end.specs.declared.MaybeEnd.{MaybeEnd}
-use Rattle.link_end.specs.declared.MaybeEnd.TheVariants.{Refused, Is}
 
 -- ---- one part of an end put anew
 
@@ -49,10 +46,10 @@ with_lost lost l = record { up = l.up; lost = lost }
 abbrev pub with_kept : ℕ → Peer → Peer
 with_kept kept p = record { kept = kept; held = p.held; last = p.last }
 
-abbrev pub with_held : Record → Peer → Peer
+abbrev pub with_held : Option Information → Peer → Peer
 with_held held p = record { kept = p.kept; held = held; last = p.last }
 
-abbrev pub with_last : Last → Peer → Peer
+abbrev pub with_last : Option ℕ → Peer → Peer
 with_last last p = record { kept = p.kept; held = p.held; last = last }
 
 abbrev pub with_revision : ℕ → Own → Own
@@ -78,7 +75,7 @@ with_owed owed o =
 -- ---- a fresh end, where discovery stands, and FAULT
 
 abbrev pub no_peer : Peer
-no_peer = record { kept = 0; held = Absent; last = Never }
+no_peer = record { kept = 0; held = None; last = None }
 
 -- "Fresh: link down, FAULT, role Idle, all counts, fields, revision and next event number 0, no critical flag, no peer record."
 unfoldable pub fresh_end : Settings → End
@@ -91,6 +88,15 @@ fresh_end s =
       meter = new_meter;
       own = record { revision = 0; number = 0; gasp = false; critical = false; owed = false };
     }
+
+-- an end made of settings or of parts, or the number of their refusal; and the code's answer as it
+pub data MaybeEnd : Type 0 where
+  Refused : ℕ → MaybeEnd
+  Is : End → MaybeEnd
+
+abbrev pub as_end : Result End Refusal → MaybeEnd
+as_end (Ok e) = Is e
+as_end (Err r) = Refused (number r)
 
 -- "settings or request values out of range" is 10; "refused settings yield no end"
 unfoldable pub fresh_of : Settings → MaybeEnd

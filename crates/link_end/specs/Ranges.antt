@@ -1,6 +1,7 @@
 -- What every end keeps to that calls have made of a fresh one. The calls themselves trust no end to do so; the crate
 -- `theorems_reach` shows that each of them keeps it.
-use Rattle.std.specs.Prelude.{◌^◌, List, [], ◌∷◌, Bool, true, false, cond, not, ◌&&◌, ◌||◌, ltb, leb, eqb}
+use Rattle.frame_body.specs.declared.Information.{Information}
+use Rattle.std.specs.Prelude.{◌^◌, List, [], ◌∷◌, Bool, true, false, cond, not, ◌&&◌, ◌||◌, ltb, leb, eqb, Option, None, Some, ℕ}
 use Rattle.octets.specs.Octets.{fit}
 use Rattle.frame_body.specs.Information.{information_widths, information_values}
 use Rattle.link_peer.specs.Ranges.{sound}
@@ -10,19 +11,13 @@ use Rattle.link_discovery.specs.Standing.{lost_count}
 use Rattle.link_loopback.specs.Loopback.{role_fits}
 use Rattle.link_loopback.specs.declared.Role.{Role}
 use Rattle.link_loopback.specs.declared.Role.TheVariants.{Idle, Asking, Holding, Ending, Looping}
-use Rattle.link_end.specs.declared.Last.{Last}
-use Rattle.link_end.specs.declared.Last.TheVariants.{Never, Number}
 use Rattle.link_end.specs.declared.Peer.{Peer}
 use Rattle.link_end.specs.declared.End.{End}
-use Rattle.link_end.specs.declared.MaybeEnd.{MaybeEnd}
-use Rattle.link_end.specs.declared.MaybeEnd.TheVariants.{Refused, Is}
 use Rattle.link_end.specs.declared.Link.{Link}
 use Rattle.link_end.specs.declared.Own.{Own}
-use Rattle.link_peer.specs.declared.Record.{Record}
-use Rattle.link_peer.specs.declared.Record.TheVariants.{Absent, Of}
 use Rattle.link_peer.specs.declared.Settings.{Settings}
 use Rattle.link_limit.specs.declared.Meter.{Meter}
-use Rattle.link_end.specs.Parts.{in_any}
+use Rattle.link_end.specs.Parts.{MaybeEnd, Refused, Is, in_any}
 use Rattle.link_end.specs.Sending.{allowed}
 
 abbrev pub all : List Bool → Bool
@@ -30,17 +25,17 @@ all [] = true
 all (b ∷ bs) = b && all bs
 
 -- a record's fields within their widths
-unfoldable pub record_fits : Record → Bool
-record_fits Absent = true
-record_fits (Of i) = fit information_widths (information_values i)
+unfoldable pub record_fits : Option Information → Bool
+record_fits None = true
+record_fits (Some i) = fit information_widths (information_values i)
 
-unfoldable pub last_fits : Last → Bool
-last_fits Never = true
-last_fits (Number n) = ltb n (2 ^ 16)
+unfoldable pub last_fits : Option ℕ → Bool
+last_fits None = true
+last_fits (Some n) = ltb n (2 ^ 16)
 
-abbrev pub never : Last → Bool
-never Never = true
-never (Number n) = false
+abbrev pub never : Option ℕ → Bool
+never None = true
+never (Some n) = false
 
 abbrev pub idle : Role → Bool
 idle Idle = true

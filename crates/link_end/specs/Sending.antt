@@ -1,16 +1,17 @@
 -- What every call ends with: the revision, what is owed, and what an Information frame is to say.
-use Rattle.std.specs.Prelude.{ℕ, Bool, false, cond, not, ◌&&◌, ◌||◌, eqb}
+use Rattle.std.specs.Prelude.{ℕ, Bool, false, cond, not, ◌&&◌, ◌||◌, eqb, None, Some}
 use Rattle.frame.specs.Flags.{flags_number}
 use Rattle.frame_body.specs.declared.Found.{Found}
-use Rattle.frame_body.specs.declared.Held.TheVariants.{Nothing, Is}
 use Rattle.link_loopback.specs.Roles.{octet_of}
 use Rattle.link_loopback.specs.declared.Role.{Role}
 use Rattle.link_discovery.specs.declared.Discovery.{Discovery}
 use Rattle.link_discovery.specs.Sending.{local_field, remote_field, fault_flag, allowed_in, own_information, cleared_record}
 use Rattle.link_limit.specs.Limit.{has_room, charged_meter}
 use Rattle.link_limit.specs.Owing.{revised, owes}
+use Rattle.frame_writer.specs.declared.sender.Sender.{Sender}
 use Rattle.link_end.specs.declared.Own.{Own}
 use Rattle.link_end.specs.declared.End.{End}
+use Rattle.link_end.specs.declared.sending.Before.{Before}
 use Rattle.link_end.specs.Parts.{with_meter, with_own, with_revision, with_owed, discovery_of}
 
 -- "FAULT with the link down if unidirectional (link fault flag, set only there, no TLV)"
@@ -32,6 +33,14 @@ flags_at standing fault e =
 unfoldable pub flags_to_send : End → ℕ
 flags_to_send e = flags_at (discovery_of e) (fault_flag_of e) e
 
+-- what of an end is compared after a call: its role, and its flags to be sent
+abbrev pub before_of : End → Before
+before_of e = record { role = e.role; flags = flags_to_send e }
+
+-- who sends an end's frames, and with which flags
+abbrev pub sender_of : End → Sender
+sender_of e = record { source = e.settings.source; flags = flags_to_send e }
+
 -- whether an Information frame is allowed
 unfoldable pub allowed : End → Bool
 allowed e = allowed_in (discovery_of e) (fault_flag_of e)
@@ -40,8 +49,8 @@ allowed e = allowed_in (discovery_of e) (fault_flag_of e)
 unfoldable pub tlvs_to_send : End → Found
 tlvs_to_send e =
     record {
-      local = cond e.link.up (Is (own_information e.settings e.own.revision e.role)) Nothing;
-      remote = cond e.link.up (cleared_record e.peer.held) Nothing;
+      local = cond e.link.up (Some (own_information e.settings e.own.revision e.role)) None;
+      remote = cond e.link.up (cleared_record e.peer.held) None;
     }
 
 -- "The revision grows by one ... in each call that changes the State octet."

@@ -1,22 +1,30 @@
 -- What a received frame makes of an end: what is kept of it, the moves, and the body's action.
-use Rattle.std.specs.Prelude.{ℕ, Bool, false, cond, ltb, eqb}
+use Rattle.frame_body.specs.declared.Information.{Information}
+use Rattle.std.specs.Prelude.{ℕ, Bool, false, cond, ltb, eqb, Option, None, Some}
 use Rattle.frame.specs.declared.Header.{Header}
-use Rattle.frame_body.specs.declared.Held.{Held}
 use Rattle.link_peer.specs.Peers.{kept_from, record_from}
 use Rattle.link_discovery.specs.declared.Discovery.{Discovery}
 use Rattle.link_loopback.specs.Loopback.{role_after_local, obeys, role_after_command}
 use Rattle.link_loopback.specs.declared.Role.{Role}
-use Rattle.link_end.specs.declared.Last.{Last}
-use Rattle.link_end.specs.declared.Last.TheVariants.{Never, Number}
 use Rattle.link_end.specs.declared.End.{End}
+use Rattle.link_end.specs.declared.Effect.{Effect}
 use Rattle.link_end.specs.declared.News.{News}
 use Rattle.link_end.specs.declared.News.TheVariants.{Frame, Events}
 use Rattle.link_end.specs.declared.Action.{Action}
 use Rattle.link_end.specs.declared.Action.TheVariants.{Inform, Notify, Command, Other}
 use Rattle.link_end.specs.declared.Heard.{Heard}
-use Rattle.link_end.specs.declared.Taken.{Taken}
 use Rattle.link_end.specs.Parts.{with_link, with_peer, with_role, with_own, with_lost, with_kept, with_held, with_last, in_any, settled}
 use Rattle.link_end.specs.Sending.{own_after, dues}
+
+-- what a frame comes to: the end after it, whether a loopback command was obeyed, and what is shown
+pub record Taken : Type 0 where
+  pub end : End
+  pub due : Bool
+  pub shown : News
+
+-- the same by the end after it and the code's answer
+abbrev pub as_taken : End → Effect → Taken
+as_taken e effect = record { end = e; due = effect.obeyed; shown = effect.shown }
 
 -- "lost-link count to 0; kept field from the flags; peer record from any Local TLV"
 abbrev pub known : Heard → End → End
@@ -41,16 +49,16 @@ obeyed source (Command command) e = obeys_command command source e
 obeyed source Other e = false
 
 -- the role after the body's action, by whether it was a command that is obeyed
-unfoldable pub role_after : Held → Action → Bool → Role → Role
+unfoldable pub role_after : Option Information → Action → Bool → Role → Role
 role_after local Inform obeyed role = role_after_local local role
 role_after local (Notify n) obeyed role = role
 role_after local (Command command) obeyed role = role_after_command command obeyed role
 role_after local Other obeyed role = role
 
 -- "only SEND_ANY keeps one"
-abbrev pub last_after : Action → Last → Last
+abbrev pub last_after : Action → Option ℕ → Option ℕ
 last_after Inform last = last
-last_after (Notify n) last = Number n
+last_after (Notify n) last = Some n
 last_after (Command command) last = last
 last_after Other last = last
 
@@ -60,14 +68,14 @@ acted m obeyed e =
     (with_peer (with_last (last_after m.action e.peer.last) e.peer) e)
 
 -- "An event number equal to the last one kept since FAULT was entered is a repeat and shows no events"
-unfoldable pub is_repeat : ℕ → Last → Bool
-is_repeat n Never = false
-is_repeat n (Number m) = eqb n m
+unfoldable pub is_repeat : ℕ → Option ℕ → Bool
+is_repeat n None = false
+is_repeat n (Some m) = eqb n m
 
-unfoldable pub shown_events : Header → ℕ → Last → News
+unfoldable pub shown_events : Header → ℕ → Option ℕ → News
 shown_events h n last = cond (is_repeat n last) (Frame h) (Events h n)
 
-unfoldable pub shown_of : Header → Action → Last → News
+unfoldable pub shown_of : Header → Action → Option ℕ → News
 shown_of h Inform last = Frame h
 shown_of h (Notify n) last = shown_events h n last
 shown_of h (Command command) last = Frame h

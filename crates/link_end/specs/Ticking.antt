@@ -27,10 +27,11 @@ ticked e = with_meter (turned_meter e.meter) (settled (missed e))
 unfoldable pub ticked_due : End → End
 ticked_due e = dues e (closes e.meter) (ticked e)
 
--- how the code comes to it: whether the link is lost by this tick, and the end by where the moves have led
+-- whether the link is lost by this tick: only then the flags to be sent can have changed
 unfoldable pub losing : End → Bool
 losing e = cond e.link.up (is_lost e.link.lost) false
 
+-- how a tick can be come to with discovery taken once (`ticked_due_lem`, proofs/DuesLaws)
 abbrev pub ticked_in : Discovery → End → End
 ticked_in standing e = with_meter (turned_meter e.meter) (settled_in standing e)
 

@@ -1,10 +1,11 @@
 // What is heard of a frame. Nothing else is taken for heard.
 ghost use Rattle.std.specs.Prelude.{◌≡◌};
 ghost use Rattle.frame.specs.Frame.{decode};
-ghost use Rattle.link_end.specs.Hearing.{action_by, heard_at, said_by};
+ghost use Rattle.link_end.specs.Hearing.{action_by, as_said, heard_at, said_by};
 
-use crate::{Action, Heard, Said};
-use frame::Judgement;
+use crate::{Action, Heard};
+use frame::Accepted;
+use octets::Refusal;
 
 // What the body asks, by its code.
 fn action_by(frame: &[u8], code: u8) -> Action
@@ -18,25 +19,22 @@ fn action_by(frame: &[u8], code: u8) -> Action
     }
 }
 
-// What is heard of an accepted frame whose Local TLV stands at an octet of its body, and in which so many TLVs were skipped.
-fn heard_at(frame: &[u8], at: usize, skipped: u16) -> Heard
-    ensures { result ≡ heard_at frame.now at skipped }
+// What is heard of an accepted frame, by what is known of it.
+fn heard_at(frame: &[u8], accepted: Accepted) -> Heard
+    ensures { result ≡ heard_at frame.now accepted.local accepted.skipped }
 {
-    let header = frame::header_of(frame, skipped);
-    let code = header.code;
+    let header = frame::header_of(frame, accepted.skipped);
     Heard {
-        header: header,
-        local: frame_body::local_at(frame::body(frame), at),
-        action: action_by(frame, code),
+        header,
+        local: frame_body::local_at(frame::body(frame), accepted.local),
+        action: action_by(frame, header.code),
     }
 }
 
-// Why a frame is refused, or what is heard of it.
-pub fn hear(frame: &[u8]) -> Said
-    ensures { result ≡ said_by (decode frame.now) }
+// What is heard of a frame, or why it is refused.
+pub fn hear(frame: &[u8]) -> Result<Heard, Refusal>
+    ensures { as_said result ≡ said_by (decode frame.now) }
 {
-    match frame::judgement_of(frame) {
-        Judgement::Refused(answer) => Said::Refusal(answer),
-        Judgement::Accepted(at, skipped) => Said::Is(heard_at(frame, at, skipped)),
-    }
+    let accepted = frame::judgement_of(frame)?;
+    Ok(heard_at(frame, accepted))
 }

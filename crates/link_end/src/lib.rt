@@ -1,7 +1,7 @@
 // One end of the link: its state, and the steps that calls make of it.
 //
 // The state is cut by who changes it, so that what a step does not touch stays as it is by computation. An end's parts are
-// given out and taken back whole (`end_with` tests them), and nothing but a step of this crate changes one. Every step is
+// given out and taken back whole (`End::with` tests them), and nothing but a step of this crate changes one. Every step is
 // total on any end, and every public function here that gives an end gives one that keeps to its ranges for one that does
 // (shown in `theorems_reach`): a request's answer and its step are one function, and what is heard comes of a frame alone.
 #![tactic(auto)]
@@ -16,46 +16,30 @@ mod taking;
 mod ticking;
 
 use frame::Header;
-use frame_body::Held;
-pub use granting::{
-    grant_frame, grant_number, grant_response, grant_start, grant_stop, smaller_maximum,
-};
+use frame_body::Information;
 pub use hearing::hear;
 use link_limit::Meter;
 use link_loopback::Role;
-use link_peer::{Record, Settings};
-pub use parts::{discovery_of, fresh};
-pub use ranges::end_with;
-pub use reporting::report_due;
-pub use sending::{after_sending, flags_to_send, sends, tlvs_to_send};
-pub use taking::taken_whole;
-pub use ticking::ticked_due;
+use link_peer::Settings;
 
 // The optics' side: whether the link is up, and the lost-link count.
-#[derive(Clone, Copy, Drop)]
+#[derive(Clone, Copy)]
 pub struct Link {
     pub up: bool,
     pub lost: u8,
 }
 
-// The last event number received since FAULT was entered.
-#[derive(Clone, Copy, Drop)]
-pub enum Last {
-    Never,
-    Number(u16),
-}
-
 // What FAULT clears, but the role: the kept peer field, the peer record, the last event number received.
-#[derive(Clone, Copy, Drop)]
+#[derive(Clone, Copy)]
 pub struct Peer {
     pub kept: u16,
-    pub held: Record,
-    pub last: Last,
+    pub held: Option<Information>,
+    pub last: Option<u16>,
 }
 
 // What the end says of itself: its revision and next event number, the two critical flags, and whether an Information frame
 // is owed.
-#[derive(Clone, Copy, Drop)]
+#[derive(Clone, Copy)]
 pub struct Own {
     pub revision: u16,
     pub number: u16,
@@ -64,9 +48,9 @@ pub struct Own {
     pub owed: bool,
 }
 
-// The meter's numbers are as wide as the source address, so it stands beside the settings: an end is handed on by value, and is
-// copied with its gaps.
-#[derive(Clone, Copy, Drop)]
+// The meter's numbers are as wide as the source address, so it stands beside the settings: an end that is copied is copied with
+// its gaps.
+#[derive(Clone, Copy)]
 pub struct End {
     settings: Settings,
     meter: Meter,
@@ -76,7 +60,8 @@ pub struct End {
     own: Own,
 }
 
-#[derive(Drop)]
+// What the box reports of itself: the optics' link up or down, and a dying gasp or a critical event that has begun or ended.
+#[derive(Clone, Copy)]
 pub enum Report {
     LinkUp,
     LinkDown,
@@ -85,7 +70,7 @@ pub enum Report {
 }
 
 // What a body asks of the machine.
-#[derive(Clone, Copy, Drop)]
+#[derive(Clone, Copy)]
 pub enum Action {
     Inform,
     Notify(u16),
@@ -94,47 +79,25 @@ pub enum Action {
 }
 
 // What is heard of an accepted frame.
-#[derive(Clone, Copy, Drop)]
+#[derive(Clone, Copy)]
 pub struct Heard {
     header: Header,
-    local: Held,
+    local: Option<Information>,
     action: Action,
-}
-
-// Why a frame is refused, or what is heard of it.
-#[derive(Drop)]
-pub enum Said {
-    Refusal(u8),
-    Is(Heard),
 }
 
 // What a receive shows: nothing, the header of an accepted frame, or the header and the number of a notification whose
 // events are new. A notification that shows its header only is a repeat or came outside SEND_ANY: its events are not taken.
-#[derive(Clone, Copy, Drop)]
+#[derive(Clone, Copy)]
 pub enum News {
     Nothing,
     Frame(Header),
     Events(Header, u16),
 }
 
-// What a frame comes to: the end after it, whether a loopback command was obeyed, and what is shown.
-#[derive(Drop)]
-pub struct Taken {
-    pub end: End,
-    pub due: bool,
+// What a frame comes to beside the end after it: whether a loopback command was obeyed, and what is shown.
+#[derive(Clone, Copy)]
+pub struct Effect {
+    pub obeyed: bool,
     pub shown: News,
-}
-
-// An end made of settings or of parts, or the number of their refusal.
-#[derive(Drop)]
-pub enum MaybeEnd {
-    Refused(u8),
-    Is(End),
-}
-
-// What is decided of a request: the answer, 0 where it is granted, and the end after it.
-#[derive(Drop)]
-pub struct Decided {
-    pub answer: u8,
-    pub end: End,
 }

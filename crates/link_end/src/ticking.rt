@@ -1,92 +1,74 @@
 // What a tick makes of an end.
 ghost use Rattle.std.specs.Prelude.{◌≡◌};
-ghost use Rattle.link_end.specs.Ticking.{missed, losing, ticked_in, own_ticked, ticked_due};
-ghost use Rattle.link_end.specs.Sending.{flags_changed};
+ghost use Rattle.link_discovery.specs.Sending.{allowed_in};
+ghost use Rattle.link_end.specs.Parts.{with_own, discovery_of};
+ghost use Rattle.link_end.specs.Sending.{octet_changed, fault_flag_of, own_in};
+ghost use Rattle.link_end.specs.Ticking.{missed, losing, ticked, ticked_due};
 
-use crate::parts::{discovery_of, faulted, settle_in};
-use crate::sending::{fault_flag_of, flags_at, octet_changed, own_in};
-use crate::{End, Link, Own};
+use crate::End;
+use crate::sending::octet_changed;
 use link_discovery::Discovery;
+use link_loopback::Role;
 
-// The lost-link count.
-#[tactic(auto, unfolding(crate::specs::Ticking::missed))]
-fn miss(e: End) -> End
-    ensures { result ≡ missed e }
-{
-    if e.link.up {
-        if link_discovery::is_lost(e.link.lost) {
-            let cleared = faulted(e);
-            return End {
-                link: Link { lost: 0, ..e.link },
-                ..cleared
-            };
+impl End {
+    // The lost-link count.
+    #[tactic(auto, unfolding(crate::specs::Ticking::missed, crate::specs::Parts::faulted))]
+    fn miss(&mut self)
+        ensures { self.new ≡ missed self.old }
+    {
+        if self.link.up {
+            if link_discovery::is_lost(self.link.lost) {
+                self.fault();
+                self.link.lost = 0;
+            } else {
+                self.link.lost += 1;
+            }
         }
-        return End {
-            link: Link {
-                lost: e.link.lost + 1,
-                ..e.link
-            },
-            ..e
-        };
     }
-    e
-}
 
-// Whether this tick makes the lost-link count one that enters FAULT.
-#[tactic(auto, unfolding(crate::specs::Ticking::losing))]
-fn is_losing(e: End) -> bool
-    ensures { result ≡ losing e }
-{
-    if e.link.up {
-        return link_discovery::is_lost(e.link.lost);
+    // Whether this tick makes the lost-link count one that enters FAULT.
+    #[tactic(auto, unfolding(crate::specs::Ticking::losing))]
+    fn is_losing(&self) -> bool
+        ensures { result ≡ losing self.now }
+    {
+        self.link.up && link_discovery::is_lost(self.link.lost)
     }
-    false
-}
 
-// The end after a tick, by where the moves have led.
-fn ticked_in(missed: End, standing: Discovery) -> End
-    ensures { result ≡ ticked_in standing missed }
-{
-    let after = settle_in(standing, missed);
-    End {
-        meter: link_limit::turned_meter(after.meter),
-        ..after
+    // The count, the moves and the meter; and where discovery stands after them.
+    #[tactic(auto, unfolding(crate::specs::Ticking::ticked, crate::specs::Ticking::missed, crate::specs::Parts::settled, crate::specs::Parts::faulted, crate::specs::Parts::discovery_of))]
+    fn count(&mut self) -> Discovery
+        ensures { (self.new ≡ ticked self.old) × (result ≡ discovery_of self.new) }
+    {
+        self.miss();
+        let standing = self.discovery();
+        self.settle(standing);
+        self.meter.turn();
+        standing
     }
-}
 
-// Whether the flags that were to be sent are others now. (`flags_to_send` of the end before is written out: a call with a whole
-// end costs each tick a copy of it, also one that does not come here.)
-#[tactic(auto, unfolding(crate::specs::Sending::flags_to_send))]
-fn flags_changed(before: End, standing: Discovery, e: End) -> bool
-    ensures { result ≡ flags_changed before standing e }
-{
-    let sent = flags_at(before, discovery_of(before), fault_flag_of(before));
-    sent != flags_at(e, standing, fault_flag_of(e))
-}
-
-// What the end says of itself then: the flags can have changed only where the link is lost.
-fn own_ticked(before: End, standing: Discovery, e: End) -> Own
-    ensures { result ≡ own_ticked before standing e }
-{
-    let was = before.role;
-    let is = e.role;
-    let octet = octet_changed(was, is);
-    let due = link_limit::closes(before.meter);
-    let allowed = link_discovery::allowed_in(standing, fault_flag_of(e));
-    if is_losing(before) {
-        let told = octets::either(octet, flags_changed(before, standing, e));
-        return own_in(allowed, octet, told, due, e.own);
+    // What the end owes after a call that left the flags to be sent as they were.
+    fn owe_octet(&mut self, was: Role, due: bool, standing: Discovery)
+        ensures { self.new ≡ with_own (own_in (allowed_in standing (fault_flag_of self.old)) (octet_changed was self.old.role) (octet_changed was self.old.role) due self.old.own) self.old }
+    {
+        let octet = octet_changed(was, self.role);
+        let allowed = standing.allows(self.fault_flag());
+        self.own.tell(allowed, octet, octet, due);
     }
-    own_in(allowed, octet, octet, due, e.own)
-}
 
-// The end after a tick, with what is owed then.
-pub fn ticked_due(e: End) -> End
-    ensures { result ≡ ticked_due e }
-{
-    let missed = miss(e);
-    let standing = discovery_of(missed);
-    let next = ticked_in(missed, standing);
-    let own = own_ticked(e, standing, next);
-    End { own: own, ..next }
+    // One tick, with what is owed then: the flags can have changed only where the link is lost.
+    #[tactic(auto, unfolding(crate::specs::Ticking::ticked_due, crate::specs::Sending::dues, crate::specs::Sending::allowed, crate::specs::Sending::changed, crate::specs::Sending::flags_to_send))]
+    pub fn tick(&mut self)
+        ensures { self.new ≡ ticked_due self.old }
+    {
+        let due = self.meter.closes();
+        if self.is_losing() {
+            let was = self.before();
+            let standing = self.count();
+            self.owe_at(was, due, standing);
+        } else {
+            let was = self.role;
+            let standing = self.count();
+            self.owe_octet(was, due, standing);
+        }
+    }
 }

@@ -1,5 +1,6 @@
 -- The tests of a request, in the paper's order.
 use Rattle.std.specs.Prelude.{ℕ, ◌+◌, min, Bool, cond, List, [], ◌∷◌, nat_le}
+use Rattle.octets.specs.declared.refusal.Refusal.{Refusal}
 
 -- "request's frame, plus 4, exceeds the smaller of the two maximum OAMPDU sizes" is 12
 abbrev pub fits_both : (octets own peer : ℕ) → Bool

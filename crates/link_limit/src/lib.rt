@@ -8,12 +8,8 @@ mod limit;
 mod owing;
 mod tests;
 
-pub use limit::{
-    charged_meter, closes, has_room, intervals, is_bounded, meter_of, new_meter, ticks,
-    turned_meter, written_frames,
-};
 pub use owing::{following, owes, revised};
-pub use tests::{fits_both, request_answer};
+pub use tests::{Tests, fits_both};
 
 // How many frames may be written in a stretch of eleven intervals, and the ticks of a timer second.
 pub const MOST_FRAMES: u8 = 10;
@@ -22,7 +18,7 @@ pub const SECOND_TICKS: u64 = 10;
 
 // The limit on frames: the ticks since a timer second closed, and the frames of the newest eleven intervals, each interval's count
 // a digit of four bits, that of the present one the lowest. (The ticks are as wide: a gap between the two would be copied with them.)
-#[derive(Clone, Copy, Drop)]
+#[derive(Clone, Copy)]
 pub struct Meter {
     ticks: u64,
     intervals: u64,

@@ -2,13 +2,11 @@
 ghost use Rattle.std.specs.Prelude.{◌≡◌};
 ghost use Rattle.link_limit.specs.Owing.{following, revised, owes};
 
-use std::num::wrapping_add_u16;
-
 // "grows by one, 65,535 going to 0"
 pub fn following(number: u16) -> u16
     ensures { result ≡ following number }
 {
-    wrapping_add_u16(number, 1)
+    number.wrapping_add(1)
 }
 
 // The revision grows in a call that changes the State octet.
@@ -26,14 +24,5 @@ pub fn revised(changed: bool, revision: u16) -> u16
 pub fn owes(allowed: bool, owed: bool, due: bool, changed: bool) -> bool
     ensures { result ≡ owes allowed owed due changed }
 {
-    if allowed {
-        if owed {
-            return true;
-        }
-        if due {
-            return true;
-        }
-        return changed;
-    }
-    false
+    allowed && (owed || due || changed)
 }

@@ -1,11 +1,9 @@
 -- Loopback: what a Local TLV and a command make of the role, and which requests the role, the mode and the peer allow.
-use Rattle.std.specs.Prelude.{ℕ, ◌%◌, Bool, true, false, cond, ◌&&◌, eqb}
-use Rattle.frame_body.specs.declared.Held.{Held}
-use Rattle.frame_body.specs.declared.Held.TheVariants.{Nothing, Is}
+use Rattle.frame_body.specs.declared.Information.{Information}
+use Rattle.std.specs.Prelude.{ℕ, ◌%◌, Bool, true, false, cond, ◌&&◌, eqb, Option, None, Some}
 use Rattle.link_loopback.specs.declared.Role.{Role}
 use Rattle.link_loopback.specs.declared.Role.TheVariants.{Idle, Asking, Holding, Ending, Looping}
 use Rattle.octets.specs.Bits.{bit}
-use Rattle.link_peer.specs.declared.Record.{Record}
 use Rattle.link_peer.specs.Peers.{peer_active, peer_loopback}
 
 -- "A Local TLV with parser 1, multiplexer discard: Asking becomes Holding. Both forward: Ending becomes Idle."
@@ -17,9 +15,9 @@ after_actions Ending looping forward = cond forward Idle Ending
 after_actions Looping looping forward = Looping
 
 -- "State: bits 1:0 parser ..., bit 2 multiplexer (1 discard)"
-unfoldable pub role_after_local : Held → Role → Role
-role_after_local Nothing role = role
-role_after_local (Is i) role = after_actions role (eqb (i.state % 8) 5) (eqb (i.state % 8) 0)
+unfoldable pub role_after_local : Option Information → Role → Role
+role_after_local None role = role
+role_after_local (Some i) role = after_actions role (eqb (i.state % 8) 5) (eqb (i.state % 8) 0)
 
 -- "Idle or Looping becomes Looping; Asking becomes Looping if its own address is the higher one (first octet
 -- first), else nothing."
@@ -39,7 +37,7 @@ is_looping Looping = true
 
 -- "Enable, own bit 2 set and peer active"; "Disable: Looping becomes Idle. Otherwise ignored, still accepted." By the command,
 -- whether the own address is the higher one, the own configuration, the peer record and the role.
-unfoldable pub obeys : ℕ → Bool → ℕ → Record → Role → Bool
+unfoldable pub obeys : ℕ → Bool → ℕ → Option Information → Role → Bool
 obeys command higher configuration held role =
     cond (eqb command 1) (bit 2 configuration && (peer_active held && takes_enable role higher)) (is_looping role)
 
@@ -64,7 +62,7 @@ stops Ending = true
 stops Looping = false
 
 -- "Other roles, a passive end, or for start a peer without bit 2: 15."
-unfoldable pub may_start : ℕ → Record → Role → Bool
+unfoldable pub may_start : ℕ → Option Information → Role → Bool
 may_start configuration held role = bit 0 configuration && (peer_loopback held && starts role)
 
 unfoldable pub may_stop : ℕ → Role → Bool

@@ -4,14 +4,17 @@
 mod loopback;
 mod roles;
 
-pub use loopback::{may_start, may_stop, obeys, role_after_command, role_after_local, role_fits};
-pub use roles::role_of;
-
-#[derive(Clone, Copy, Drop)]
+// The role of an end in a remote loopback.
+#[derive(Clone, Copy, PartialEq, Eq)]
 pub enum Role {
+    // none
     Idle,
+    // it has sent an enable, and waits for the peer to loop
     Asking,
+    // the peer sends back what it sends
     Holding,
+    // it has sent a disable, and waits for the peer to end
     Ending,
+    // it sends back what comes
     Looping,
 }

@@ -5,6 +5,7 @@ ghost use Rattle.link_loopback.specs.Roles.{octet_of, role_number, role_of};
 use crate::Role;
 
 impl Role {
+    // The State octet of each role: how its multiplexer and its parser stand.
     pub const IDLE: u8 = 0;
 
     pub const ASKING: u8 = 6;
@@ -15,6 +16,7 @@ impl Role {
 
     pub const LOOPING: u8 = 5;
 
+    // The State octet that an Information frame tells.
     pub fn octet(self) -> u8
         ensures { result ≡ octet_of self }
     {
@@ -26,29 +28,26 @@ impl Role {
             Role::Looping => Role::LOOPING,
         }
     }
+
     // Asking and Ending have one octet, so a role is kept by a number of its own.
     pub fn number(self) -> u8
         ensures { result ≡ role_number self }
     {
-        match self {
-            Role::Idle => 0,
-            Role::Asking => 1,
-            Role::Holding => 2,
-            Role::Ending => 3,
-            Role::Looping => 4,
-        }
+        self as u8
     }
 }
 
-// The role of a number.
-pub fn role_of(number: u8) -> Role
-    ensures { result ≡ role_of number }
-{
-    match number {
-        0 => Role::Idle,
-        1 => Role::Asking,
-        2 => Role::Holding,
-        3 => Role::Ending,
-        _ => Role::Looping,
+// The role of a number; each from 4 on is that of Looping.
+impl From<u8> for Role {
+    ghost from_gives = { λ number role. role ≡ role_of number };
+
+    fn from(number: u8) -> Role {
+        match number {
+            0 => Role::Idle,
+            1 => Role::Asking,
+            2 => Role::Holding,
+            3 => Role::Ending,
+            _ => Role::Looping,
+        }
     }
 }

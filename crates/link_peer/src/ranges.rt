@@ -4,28 +4,17 @@ ghost use Rattle.link_peer.specs.Ranges.{sound};
 
 use crate::Settings;
 
-// Whether every value is in its range; other settings yield no end.
-#[tactic(auto, unfolding(crate::specs::Ranges::sound))]
-pub fn is_sound(settings: Settings) -> bool
-    ensures { result ≡ sound settings }
-{
-    if 32 <= settings.configuration {
-        return false;
+impl Settings {
+    // Whether every value is in its range; other settings yield no end.
+    #[tactic(auto, unfolding(crate::specs::Ranges::sound))]
+    pub fn is_sound(self) -> bool
+        ensures { result ≡ sound self }
+    {
+        self.configuration < 32
+            && (64..=1518).contains(&self.size)
+            && self.oui < 0x1000000
+            && self.source < 0x1000000000000
+            && self.required < 32
+            && self.required % 2 == 0
     }
-    if settings.size < 64 {
-        return false;
-    }
-    if 1518 < settings.size {
-        return false;
-    }
-    if 0x1000000 <= settings.oui {
-        return false;
-    }
-    if 0x1000000000000 <= settings.source {
-        return false;
-    }
-    if 32 <= settings.required {
-        return false;
-    }
-    settings.required % 2 == 0
 }

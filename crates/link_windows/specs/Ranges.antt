@@ -1,9 +1,9 @@
 -- The settings that a watch is made of, and what every watch keeps to that counts have made of a fresh one.
-use Rattle.std.specs.Prelude.{ℕ, ◌-◌, ◌/◌, ◌%◌, ◌^◌, Bool, false, cond, not, ◌&&◌, ◌||◌, ◌==◌, nat_le, nat_lt}
+use Rattle.std.specs.Prelude.{ℕ, ◌-◌, ◌/◌, ◌%◌, ◌^◌, Bool, false, cond, not, ◌&&◌, ◌||◌, ◌==◌, nat_le, nat_lt, Result, Ok, Err}
+use Rattle.octets.specs.declared.refusal.Refusal.{Refusal}
+use Rattle.octets.specs.Refusals.{number}
 use Rattle.octets.specs.Tests.{between}
 use Rattle.link_limit.specs.Limit.{second_ticks}
-use Rattle.link_windows.specs.declared.MaybeWatch.{MaybeWatch}
-use Rattle.link_windows.specs.declared.MaybeWatch.TheVariants.{Refused, Is}
 use Rattle.link_windows.specs.declared.Watch.{Watch}
 use Rattle.link_windows.specs.declared.Window.{Window}
 use Rattle.link_windows.specs.Watches.{watch_of, phase_of}
@@ -26,6 +26,15 @@ fresh_window length threshold = record { length = length; threshold = threshold;
 abbrev pub new_watch : (frame_window frame_threshold seconds_window seconds_threshold : ℕ) → Watch
 new_watch frame_window frame_threshold seconds_window seconds_threshold =
     watch_of (fresh_window frame_window frame_threshold) (fresh_window seconds_window seconds_threshold) 0 false
+
+-- a watch made of settings, or the number of their refusal
+pub data MaybeWatch : Type 0 where
+  Refused : ℕ → MaybeWatch
+  Is : Watch → MaybeWatch
+
+abbrev pub as_watch : Result Watch Refusal → MaybeWatch
+as_watch (Ok w) = Is w
+as_watch (Err refusal) = Refused (number refusal)
 
 -- "another window, or a threshold of 0 or beyond its field, is 10"
 unfoldable pub fresh_watch : (frame_window frame_threshold seconds_window seconds_threshold : ℕ) → MaybeWatch

@@ -1,8 +1,9 @@
 -- Both windows at one tick: "Take the count of bad frames at each tick and run two windows".
-use Rattle.std.specs.Prelude.{ℕ, ◌+◌, ◌-◌, ◌%◌, ◌^◌, Bool, false, cond, not, ◌||◌, ◌==◌}
+use Rattle.std.specs.Prelude.{ℕ, ◌+◌, ◌-◌, ◌%◌, ◌^◌, Bool, false, cond, not, ◌||◌, ◌==◌, Option}
+use Rattle.frame_tlvs.specs.declared.Event.{Event}
 use Rattle.octets.specs.Bits.{bit_of}
 use Rattle.link_limit.specs.Limit.{second_ticks}
-use Rattle.link_windows.specs.declared.Counted.{Counted}
+use Rattle.link_windows.specs.declared.Arisen.{Arisen}
 use Rattle.link_windows.specs.declared.Watch.{Watch}
 use Rattle.link_windows.specs.declared.Window.{Window}
 use Rattle.link_windows.specs.Windows.{advanced, arisen_in}
@@ -44,6 +45,12 @@ wrapped w =
 
 -- ---- what a count comes to
 
+-- the watch after it, and what arose in each window
+pub record Counted : Type 0 where
+  pub watch : Watch
+  pub frames : Option Event
+  pub seconds : Option Event
+
 abbrev pub errored_by : Watch → ℕ → ℕ
 errored_by w count = errored_seconds (closes_second w) (bad_second w count)
 
@@ -69,3 +76,7 @@ taken_count w count =
       frames = arisen_in 2 (stamp_after w) w.frames count (frames_after w count);
       seconds = arisen_in 4 (stamp_after w) w.seconds (errored_by w count) (seconds_after w count);
     }
+
+-- what a count comes to that stepped the watch where it stands
+abbrev pub told_count : Watch → Arisen → Counted
+told_count w arisen = record { watch = w; frames = arisen.frames; seconds = arisen.seconds }

@@ -1,8 +1,7 @@
 -- One window at one tick: the ticks before it in the present window, the errors that it adds, and whether an event arises.
-use Rattle.std.specs.Prelude.{ℕ, ◌+◌, ◌-◌, ◌%◌, ◌^◌, min, Bool, cond, ◌&&◌, [], ◌∷◌, nat_le}
+use Rattle.frame_tlvs.specs.declared.Event.{Event}
+use Rattle.std.specs.Prelude.{ℕ, ◌+◌, ◌-◌, ◌%◌, ◌^◌, min, Bool, cond, ◌&&◌, [], ◌∷◌, nat_le, Option, None, Some}
 use Rattle.frame_tlvs.specs.Events.{event_of}
-use Rattle.link_windows.specs.declared.Arisen.{Arisen}
-use Rattle.link_windows.specs.declared.Arisen.TheVariants.{Nothing, Is}
 use Rattle.link_windows.specs.declared.Window.{Window}
 
 -- "errors too many for theirs show its largest value": that of four octets. (Of two, for the seconds of a window, 900 are the most.)
@@ -39,7 +38,7 @@ advanced w added =
 
 -- the event of a type that arises at this tick, by the window before it, whose errors its end clears, and after it, whose totals
 -- have this one in: "with totals since fresh, itself included, and as timestamp the ticks since fresh modulo 65,536"
-unfoldable pub arisen_in : (kind stamp : ℕ) → Window → (added : ℕ) → Window → Arisen
+unfoldable pub arisen_in : (kind stamp : ℕ) → Window → (added : ℕ) → Window → Option Event
 arisen_in kind stamp before added after =
     cond (arises before added)
-    (Is (event_of kind (stamp ∷ after.length ∷ after.threshold ∷ summed before added ∷ after.total ∷ after.events ∷ []))) Nothing
+    (Some (event_of kind (stamp ∷ after.length ∷ after.threshold ∷ summed before added ∷ after.total ∷ after.events ∷ []))) None

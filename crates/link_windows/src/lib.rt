@@ -9,14 +9,11 @@ mod counting;
 mod parts;
 mod ranges;
 
-pub use counting::{phase, take_count};
 use frame_tlvs::Event;
-pub use parts::watch_of;
-pub use ranges::{fresh_watch, fresh_window, is_proper};
 
 // One window: its length in ticks and its threshold; of the present window the ticks so far and the errors in them; and since
 // fresh the errors of all ticks and the events that arose.
-#[derive(Clone, Copy, Drop)]
+#[derive(Clone, Copy)]
 pub struct Window {
     pub length: u16,
     pub threshold: u32,
@@ -28,7 +25,7 @@ pub struct Window {
 
 // The window of errored frames and that of errored frame seconds, the ticks since fresh modulo 65,536, and whether the present
 // second has a bad frame.
-#[derive(Clone, Copy, Drop)]
+#[derive(Clone, Copy)]
 pub struct Watch {
     frames: Window,
     seconds: Window,
@@ -36,24 +33,9 @@ pub struct Watch {
     bad: bool,
 }
 
-// A watch made of settings, or the number of their refusal.
-#[derive(Drop)]
-pub enum MaybeWatch {
-    Refused(u8),
-    Is(Watch),
-}
-
-// The event that arose, if one did.
-#[derive(Clone, Copy, Drop)]
-pub enum Arisen {
-    Nothing,
-    Is(Event),
-}
-
-// What a count comes to: the watch after it, and what arose in each window.
-#[derive(Clone, Copy, Drop)]
-pub struct Counted {
-    pub watch: Watch,
-    pub frames: Arisen,
-    pub seconds: Arisen,
+// What arose in each window at one tick.
+#[derive(Clone, Copy)]
+pub struct Arisen {
+    pub frames: Option<Event>,
+    pub seconds: Option<Event>,
 }

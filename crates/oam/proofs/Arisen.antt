@@ -1,5 +1,10 @@
 -- What arises at a tick: how many numbers it takes, and that it is at most two events; and what the entry of the tick gives back.
-use Prim.Native.Nat.{ℕ, ◌*◌, ◌≤◌}
+use Rattle.std.specs.Prelude.{Option, None, Some, Err}
+use Prim.Native.Nat.{ℕ, ◌*◌, ◌^◌, ◌<◌, ◌≤◌}
+use Rattle.frame_tlvs.specs.declared.Event.{Event}
+use Rattle.link_loopback.specs.Roles.{octet_of}
+use Rattle.link_loopback.specs.declared.Role.{Role}
+use Rattle.link_loopback.specs.declared.Role.TheVariants.{Idle, Asking, Holding, Ending, Looping}
 use mathlib.Core.Path.{◌≡◌, refl, sym, ap, ◌∙◌}
 use mathlib.Core.List.{List}
 use native.Mathlib.Omega.{arith}
@@ -8,26 +13,36 @@ use lib.ListN.{length}
 use lib.Seq.{sets}
 use Rattle.octets.proofs.Stores.{sets-append}
 use Rattle.link_end.specs.declared.End.{End}
-use Rattle.link_end.specs.declared.MaybeEnd.{MaybeEnd}
-use Rattle.link_end.specs.declared.MaybeEnd.TheVariants.{Refused, Is}
+use Rattle.link_end.specs.Parts.{Is, Refused, MaybeEnd}
 use Rattle.link_end.specs.declared.News.TheVariants.{Nothing as NoNews}
-use Rattle.link.specs.Outcomes.{outcome}
+use Rattle.octets.specs.declared.refusal.Refusal.{Refusal}
+use Rattle.octets.specs.Refusals.{number}
+use Rattle.std.proofs.Common.{false, eqb, rules}
+use Rattle.link.specs.Outcomes.{outcome, told}
 use Rattle.link_windows.specs.declared.Watch.{Watch}
-use Rattle.link_windows.specs.declared.Arisen.{Arisen}
-use Rattle.link_windows.specs.declared.Arisen.TheVariants.{Nothing, Is as Arose}
-use Rattle.link_windows.specs.declared.Counted.{Counted}
-use Rattle.link_counting.specs.declared.CountedTick.{CountedTick}
-use Rattle.link_counting.specs.Counting.{uncounted}
+use Rattle.link_windows.specs.Watches.{Counted}
+use Rattle.link_counting.specs.Counting.{CountedTick, uncounted, told_tick}
 use Rattle.oam_outcomes.specs.Stepped.{stepped_number}
 use Rattle.oam.specs.Ticking.{arisen_numbers, arisen_count, counted_numbers, ticked_number, ticked_state, Ticking}
 
-pub count_small : (a : Arisen) → arisen_count a ≤ 1
-count_small Nothing = omega arith
-count_small (Arose e) = omega arith
+-- no refusal is shown as 0
+never_0 : (r : Refusal) → eqb (number r) 0 ≡ false
+never_0 r = search rules
 
-numbers_long : (a : Arisen) → length (arisen_numbers a) ≡ arisen_count a * 7
-numbers_long Nothing = refl
-numbers_long (Arose e) = refl
+pub octet_small : (r : Role) → octet_of r < 2 ^ 8
+octet_small Idle = omega arith
+octet_small Asking = omega arith
+octet_small Holding = omega arith
+octet_small Ending = omega arith
+octet_small Looping = omega arith
+
+pub count_small : (a : Option Event) → arisen_count a ≤ 1
+count_small None = omega arith
+count_small (Some e) = omega arith
+
+numbers_long : (a : Option Event) → length (arisen_numbers a) ≡ arisen_count a * 7
+numbers_long None = refl
+numbers_long (Some e) = refl
 
 -- what arose in the second window is stored behind what arose in the first
 pub both_stored : (c : Counted) (events : List ℕ)
@@ -55,6 +70,14 @@ module _ {call : End → CountedTick} {output : End → List ℕ → List ℕ} (
         keeps = q.2 ∙ ap (λ (t : CountedTick). ticked_state t state) p.0;
         writes = p.1;
       })
+
+  -- a tick that is refused: nothing is stored
+  pub refused_ticked : {e : End} {answer : ℕ} {out' : List ℕ} (after : End) (w : Watch) (r : Refusal) → found ≡ Is e
+      → (told_tick after w (Err r) ≡ call e) × (out' ≡ output e out)
+      → answer ≡ stepped_number (told after (Err r))
+      → Ticking call output found events state out answer events state out'
+  unfolding ticked_number ticked_state
+  refused_ticked after w r h p a = ticked h p (a ∙ sym (add-zero (stepped_number (told after (Err r)))), refl, rw (never_0 r))
 
   -- events too short: nothing is stored
   pub short_ticked : {e : End} {answer : ℕ} (w : Watch) → found ≡ Is e

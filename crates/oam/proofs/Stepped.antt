@@ -3,21 +3,22 @@ use Prim.Native.Nat.{ℕ, ◌+◌}
 use mathlib.Core.Path.{◌≡◌, refl, sym, ap, ◌∙◌}
 use mathlib.Core.List.{List, ◌++◌}
 use native.Mathlib.Nat.{zero-add}
-use mathlib.Core.Bool.{false}
-use lib.Dec.{eqb}
+use native.Mathlib.Omega.{arith}
+use mathlib.Core.Bool.{Bool, true, false, cond}
+use Rattle.std.specs.Prelude.{None, Some}
+use lib.Dec.{leb, eqb}
 use lib.ListN.{length}
 use lib.Seq.{sets}
 use Rattle.octets.proofs.Stores.{sets-append}
 use Rattle.link_end.specs.declared.End.{End}
-use Rattle.link_end.specs.declared.MaybeEnd.{MaybeEnd}
-use Rattle.link_end.specs.declared.MaybeEnd.TheVariants.{Refused, Is}
+use Rattle.link_end.specs.Parts.{Is, Refused, MaybeEnd}
 use Rattle.link_end.specs.declared.News.TheVariants.{Nothing}
-use Rattle.link.specs.declared.Outcome.{Outcome}
-use Rattle.link.specs.Outcomes.{outcome}
-use Rattle.link_windows.specs.declared.MaybeWatch.{MaybeWatch}
+use Rattle.link.specs.Outcomes.{Outcome, outcome}
+use Rattle.link_windows.specs.Ranges.{MaybeWatch}
 use Rattle.oam_outcomes.specs.Stepped.{stepped_number, stepped_state}
 use Rattle.oam_showing.specs.Showing.{Showing}
-use Rattle.oam.specs.Machine.{Stepping, Freshly, news_shown, Receiving}
+use Rattle.link_end.specs.declared.Report.{Report}
+use Rattle.oam.specs.Machine.{Stepping, Freshly, report_from, known_report, news_shown, Receiving}
 
 module _ {call : End → Outcome} {output : End → List ℕ → List ℕ} (found : MaybeEnd) (state out : List ℕ) where
   pub refused : {n : ℕ} → found ≡ Refused n → Stepping call output found state out n state out
@@ -75,3 +76,18 @@ thrice_stored l xs ys zs m n h k =
     ap (λ (p : ℕ). sets (sets (sets l 0 xs) m ys) p zs) (sym k)
     ∙ sym (sets-append (sets l 0 xs) m ys zs)
     ∙ more_stored l xs (ys ++ zs) m h
+
+-- a number that is no report, and one that is
+pub unknown_report : (n : ℕ) → None ≡ known_report n → leb n 5 ≡ false
+unknown_report n = by (leb n 5)
+  where
+    by : (b : Bool) → None ≡ cond b (Some (report_from n)) None → b ≡ false
+    by true e = let z : ◌≡◌ {A = ℕ} 0 1 = cc in absurd (omega arith)
+    by false e = refl
+
+pub report_is : (n : ℕ) (r : Report) → Some r ≡ known_report n → (leb n 5 ≡ true) × (r ≡ report_from n)
+report_is n r = by (leb n 5)
+  where
+    by : (b : Bool) → Some r ≡ cond b (Some (report_from n)) None → (b ≡ true) × (r ≡ report_from n)
+    by true e = (refl, cc)
+    by false e = let z : ◌≡◌ {A = ℕ} 0 1 = cc in absurd (omega arith)

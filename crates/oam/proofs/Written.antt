@@ -4,8 +4,7 @@ use mathlib.Core.Path.{◌≡◌, refl, ap, ◌∙◌}
 use mathlib.Core.List.{List}
 use mathlib.Core.Bool.{Bool, true, false}
 use Rattle.frame.specs.Frame.{Message}
-use Rattle.frame_writer.specs.Writing.{Writing, WritingFormed}
-use Rattle.frame_writer.specs.declared.Written.{Written}
+use Rattle.frame_writer.specs.Writing.{Written, Writing, WritingFormed}
 use Rattle.oam_outcomes.specs.Written.{written_number}
 use Rattle.oam.specs.Writing.{WritingFrame}
 

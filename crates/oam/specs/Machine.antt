@@ -1,24 +1,21 @@
 -- What the entries of the link machine promise. An end is kept in octets that the caller lends: an entry unpacks it, takes the
 -- call, and stores the end after it. The calls are those of the theorems' machine (`outcome_by`, `output_by` of `theorems_reach`).
-use Rattle.std.specs.Prelude.{ℕ, ◌≡◌, List, [], ◌∷◌, ◌++◌, cond, true, false, ltb, leb, eqb, length}
+use Rattle.std.specs.Prelude.{ℕ, ◌≡◌, List, [], ◌∷◌, ◌++◌, cond, true, false, ltb, leb, eqb, length, Option, None, Some}
 use Rattle.std.proofs.lemmas.List.Edits.{sets}
 use Rattle.link_discovery.specs.Standing.{standing_number}
 use Rattle.link_peer.specs.declared.Settings.{Settings}
 use Rattle.link_end.specs.declared.End.{End}
-use Rattle.link_end.specs.declared.MaybeEnd.{MaybeEnd}
-use Rattle.link_end.specs.declared.MaybeEnd.TheVariants.{Refused, Is}
 use Rattle.link_end.specs.declared.Report.{Report}
 use Rattle.link_end.specs.declared.Report.TheVariants.{LinkUp, LinkDown, DyingGasp, CriticalEvent}
 use Rattle.link_end.specs.declared.News.{News}
 use Rattle.link_end.specs.declared.News.TheVariants.{Nothing, Frame, Events}
-use Rattle.link.specs.declared.Outcome.{Outcome}
-use Rattle.link.specs.Outcomes.{outcome}
+use Rattle.link.specs.Outcomes.{Outcome, outcome}
 use Rattle.theorems_reach.specs.Machine.{report, receive, outcome_by, output_by}
 use Rattle.oam_outcomes.specs.Stepped.{stepped_number, stepped_state}
-use Rattle.link_end.specs.Parts.{fresh_of, discovery_of}
+use Rattle.link_end.specs.Parts.{Is, Refused, MaybeEnd, fresh_of, discovery_of}
 use Rattle.oam_packing.specs.Numbers.{numbers_of}
-use Rattle.link_windows.specs.declared.MaybeWatch.{MaybeWatch}
-use Rattle.link_windows.specs.declared.MaybeWatch.TheVariants.{Refused as WatchRefused, Is as WatchIs}
+use Rattle.link_windows.specs.Ranges.{MaybeWatch}
+use Rattle.link_windows.specs.Ranges.{Refused as WatchRefused, Is as WatchIs}
 use Rattle.link_windows.specs.declared.Watch.{Watch}
 use Rattle.oam_packing.specs.Watches.{watch_shown}
 use Rattle.oam_packing.specs.Octets.{state_length, packed_in, watch_packed_in}
@@ -81,6 +78,10 @@ report_from n =
     (cond (eqb n 2) (DyingGasp true)
     (cond (eqb n 3) (DyingGasp false)
     (cond (eqb n 4) (CriticalEvent true) (CriticalEvent false)))))
+
+-- the report of a number, where there is one
+abbrev pub known_report : ℕ → Option Report
+known_report n = cond (leb n 5) (Some (report_from n)) None
 
 -- any other number is 10: the end stays, and so its State octet
 unfoldable pub reported_by : (number octets : ℕ) → End → Outcome

@@ -1,18 +1,15 @@
 -- What the entry of the tick promises: a call like the others, and the events that arise.
-use Rattle.std.specs.Prelude.{ℕ, ◌+◌, ◌*◌, ◌^◌, ◌≡◌, List, [], ◌∷◌, ◌++◌, cond, ltb, eqb}
+use Rattle.frame_tlvs.specs.declared.Event.{Event}
+use Rattle.std.specs.Prelude.{ℕ, ◌+◌, ◌*◌, ◌^◌, ◌≡◌, List, [], ◌∷◌, ◌++◌, cond, ltb, eqb, Option, None, Some}
 use Rattle.std.proofs.lemmas.List.Edits.{sets}
 use Rattle.frame_writer.specs.Encode.{event_values}
 use Rattle.link_end.specs.declared.End.{End}
-use Rattle.link_end.specs.declared.MaybeEnd.{MaybeEnd}
-use Rattle.link_end.specs.declared.MaybeEnd.TheVariants.{Refused, Is}
+use Rattle.link_end.specs.Parts.{Is, Refused, MaybeEnd}
 use Rattle.link_end.specs.declared.News.TheVariants.{Nothing as NoNews}
 use Rattle.link.specs.Outcomes.{outcome}
-use Rattle.link_windows.specs.declared.Arisen.{Arisen}
-use Rattle.link_windows.specs.declared.Arisen.TheVariants.{Nothing, Is as Arose}
-use Rattle.link_windows.specs.declared.Counted.{Counted}
+use Rattle.link_windows.specs.Watches.{Counted}
 use Rattle.link_windows.specs.declared.Watch.{Watch}
-use Rattle.link_counting.specs.declared.CountedTick.{CountedTick}
-use Rattle.link_counting.specs.Counting.{uncounted, counted_tick}
+use Rattle.link_counting.specs.Counting.{CountedTick, uncounted, counted_tick}
 use Rattle.theorems_reach.specs.Machine.{tick, output_by}
 use Rattle.oam_packing.specs.Octets.{watch_packed_in}
 use Rattle.oam_outcomes.specs.Stepped.{stepped_number, stepped_state}
@@ -21,13 +18,13 @@ use Rattle.oam.specs.Machine.{output_after}
 -- ---- what arose
 
 -- an event as seven numbers: its type and its six values
-abbrev pub arisen_numbers : Arisen → List ℕ
-arisen_numbers Nothing = []
-arisen_numbers (Arose e) = e.kind ∷ event_values e
+abbrev pub arisen_numbers : Option Event → List ℕ
+arisen_numbers None = []
+arisen_numbers (Some e) = e.kind ∷ event_values e
 
-abbrev pub arisen_count : Arisen → ℕ
-arisen_count Nothing = 0
-arisen_count (Arose e) = 1
+abbrev pub arisen_count : Option Event → ℕ
+arisen_count None = 0
+arisen_count (Some e) = 1
 
 -- errored frames first
 abbrev pub counted_numbers : Counted → List ℕ

@@ -4,7 +4,7 @@ ghost use Rattle.octets.specs.Octets.{fit};
 ghost use Rattle.frame_body.specs.Information.{information_widths, information_of};
 ghost use Rattle.oam.specs.Lending.{lends, held_from};
 
-use frame_body::{Held, INFORMATION_WIDTHS, Information};
+use frame_body::{INFORMATION_WIDTHS, Information};
 
 // Whether some numbers lend an Information TLV or none: seven, each within its field's width, or no number.
 #[tactic(auto, unfolding(crate::specs::Lending::lends))]
@@ -37,12 +37,12 @@ fn information_of(numbers: &[u64]) -> Information
 }
 
 // The TLV that some numbers lend, if they lend one.
-pub(crate) fn held_from(numbers: &[u64]) -> Held
+pub(crate) fn held_from(numbers: &[u64]) -> Option<Information>
     requires { lends numbers.now ≡ true }
     ensures { result ≡ held_from numbers.now }
 {
     if numbers.len() == 0 {
-        return Held::Nothing;
+        return None;
     }
-    Held::Is(information_of(numbers))
+    Some(information_of(numbers))
 }

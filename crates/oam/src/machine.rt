@@ -3,31 +3,34 @@
 // that no end and watch are packed to are 10, and nothing is touched.
 ghost use Rattle.std.specs.Prelude.{◌≡◌, ◌≤◌, length};
 ghost use Rattle.std.proofs.lemmas.List.Edits.{sets};
-ghost use Rattle.link_end.specs.declared.MaybeEnd as MaybeEnd;
-ghost use Rattle.link_windows.specs.Ranges.{fresh_watch};
+ghost use Rattle.link_end.specs.Parts.{as_end};
+ghost use Rattle.octets.specs.Refusals.{as_answer};
+ghost use Rattle.link_windows.specs.Ranges.{as_watch, fresh_watch};
 ghost use Rattle.oam_packing.specs.Watches.{watch_shown};
 ghost use Rattle.oam_packing.specs.Octets.{unpacked, watch_in};
 ghost use Rattle.oam_showing.specs.Showing.{Showing};
-ghost use Rattle.oam.specs.Machine.{Stepping, settings_of, fresh_for, Freshly, report_from, reported_by, reported_output, news_shown, received_by, received_output, Receiving, end_numbers, end_shown};
+ghost use Rattle.oam.specs.Machine.{Stepping, settings_of, fresh_for, Freshly, known_report, reported_by, reported_output, news_shown, received_by, received_output, Receiving, end_numbers, end_shown};
 
-use link_end::{End, MaybeEnd, News, Report};
+use link_end::{End, News, Report};
 use link_peer::Settings;
-use link_windows::{MaybeWatch, Watch};
-use oam_outcomes::{refused_number, store_outcome};
+use link_windows::Watch;
+use oam_outcomes::{stepped_number, store_outcome};
 use oam_showing::{show, show_header};
+use octets::Refusal;
 
-// Stores a fresh end and its watch, or neither where the watch is refused.
-fn store_fresh(e: End, watch: MaybeWatch, state: &mut [u8]) -> u64
-    ensures { Freshly (MaybeEnd.Is e) watch state.old result state.new }
+// Stores a fresh end and its watch, or neither where one of them is refused.
+fn store_fresh(
+    end: Result<End, Refusal>,
+    watch: Result<Watch, Refusal>,
+    state: &mut [u8],
+) -> Result<(), Refusal>
+    ensures { Freshly (as_end end) (as_watch watch) state.old (as_answer result) state.new }
 {
-    match watch {
-        MaybeWatch::Refused(answer) => answer as u64,
-        MaybeWatch::Is(w) => {
-            oam_packing::pack(e, state);
-            oam_packing::pack_watch(w, state);
-            0
-        }
-    }
+    let end = end?;
+    let watch = watch?;
+    oam_packing::pack(&end, state);
+    oam_packing::pack_watch(&watch, state);
+    Ok(())
 }
 
 // Makes a fresh end and a fresh watch by their settings: 0, or 10 for settings out of range and for a state of another length.
@@ -51,35 +54,37 @@ pub fn oam_fresh(
         return 10;
     }
     let settings = Settings {
-        configuration: configuration,
-        size: size,
-        oui: oui,
-        vendor: vendor,
-        source: source,
-        required: required,
+        configuration,
+        size,
+        oui,
+        vendor,
+        source,
+        required,
     };
-    let watch = link_windows::fresh_watch(
+    let watch = Watch::fresh(
         frame_window,
         frame_threshold,
         seconds_window,
         seconds_threshold,
     );
-    match link_end::fresh(settings) {
-        MaybeEnd::Refused(answer) => answer as u64,
-        MaybeEnd::Is(e) => store_fresh(e, watch, state),
+    match store_fresh(End::fresh(settings), watch, state) {
+        Ok(()) => 0,
+        Err(refusal) => u64::from(refusal.number()),
     }
 }
 
-fn report_from(number: u8) -> Report
-    ensures { result ≡ report_from number }
+// The report of a number, where there is one.
+fn known_report(number: u8) -> Option<Report>
+    ensures { result ≡ known_report number }
 {
     match number {
-        0 => Report::LinkUp,
-        1 => Report::LinkDown,
-        2 => Report::DyingGasp(true),
-        3 => Report::DyingGasp(false),
-        4 => Report::CriticalEvent(true),
-        _ => Report::CriticalEvent(false),
+        0 => Some(Report::LinkUp),
+        1 => Some(Report::LinkDown),
+        2 => Some(Report::DyingGasp(true)),
+        3 => Some(Report::DyingGasp(false)),
+        4 => Some(Report::CriticalEvent(true)),
+        5 => Some(Report::CriticalEvent(false)),
+        _ => None,
     }
 }
 
@@ -89,12 +94,13 @@ pub fn oam_report(report: u8, state: &mut [u8], out: &mut [u8]) -> u64
     ensures { Stepping (reported_by report (length out.old)) (reported_output report) (unpacked state.old) state.old out.old result state.new out.new }
 {
     match oam_packing::unpack(state) {
-        MaybeEnd::Refused(answer) => answer as u64,
-        MaybeEnd::Is(e) => {
-            if 5 < report {
-                return refused_number(10, e);
-            }
-            store_outcome(link::take_report(e, report_from(report), out), state)
+        Err(refusal) => u64::from(refusal.number()),
+        Ok(mut end) => {
+            let Some(known) = known_report(report) else {
+                return stepped_number(&end, Err(Refusal::OutOfRange));
+            };
+            let step = link::take_report(&mut end, known, out);
+            store_outcome(&end, step, state)
         }
     }
 }
@@ -116,52 +122,54 @@ pub fn oam_receive(frame: &[u8], header: &mut [u64], state: &mut [u8], out: &mut
     ensures { Receiving (received_by frame.now (length header.old) (length out.old)) (received_output frame.now (length header.old)) (unpacked state.old) header.old state.old out.old result header.new state.new out.new }
 {
     match oam_packing::unpack(state) {
-        MaybeEnd::Refused(answer) => answer as u64,
-        MaybeEnd::Is(e) => {
+        Err(refusal) => u64::from(refusal.number()),
+        Ok(mut end) => {
             if header.len() < oam_showing::HEADER_NUMBERS {
-                return refused_number(9, e);
+                return stepped_number(&end, Err(Refusal::ShortOutput));
             }
-            let o = link::receive(e, frame, out);
-            let shown = o.shown;
-            show_news(header, shown);
-            store_outcome(o, state)
+            match link::receive(&mut end, frame, out) {
+                Err(refusal) => store_outcome(&end, Err(refusal), state),
+                Ok(step) => {
+                    show_news(header, step.shown);
+                    store_outcome(&end, Ok(step), state)
+                }
+            }
         }
     }
 }
 
 // The numbers of a watch, behind those of its end.
 #[tactic(auto, unfolding(oam_packing::specs::Watches::watch_shown))]
-fn show_watch(lent: &mut [u64], watch: Watch)
+fn show_watch(lent: &mut [u64], watch: &Watch)
     requires { 43 ≤ length lent.old }
-    ensures { lent.new ≡ sets lent.old 29 (watch_shown watch) }
+    ensures { lent.new ≡ sets lent.old 29 (watch_shown watch.now) }
 {
     let frames = watch.frames();
     let seconds = watch.seconds();
-    lent[29] = frames.length as u64;
-    lent[30] = frames.threshold as u64;
-    lent[31] = seconds.length as u64;
-    lent[32] = seconds.threshold as u64;
-    lent[33] = frames.at as u64;
-    lent[34] = frames.errors as u64;
+    lent[29] = u64::from(frames.length);
+    lent[30] = u64::from(frames.threshold);
+    lent[31] = u64::from(seconds.length);
+    lent[32] = u64::from(seconds.threshold);
+    lent[33] = u64::from(frames.at);
+    lent[34] = u64::from(frames.errors);
     lent[35] = frames.total;
-    lent[36] = frames.events as u64;
-    lent[37] = seconds.at as u64;
-    lent[38] = seconds.errors as u64;
+    lent[36] = u64::from(frames.events);
+    lent[37] = u64::from(seconds.at);
+    lent[38] = u64::from(seconds.errors);
     lent[39] = seconds.total;
-    lent[40] = seconds.events as u64;
-    lent[41] = watch.stamp() as u64;
-    lent[42] = octets::bit_of(watch.bad()) as u64;
+    lent[40] = u64::from(seconds.events);
+    lent[41] = u64::from(watch.stamp());
+    lent[42] = u64::from(watch.bad());
 }
 
 // The 27 numbers of an end, where discovery stands, the digits of its intervals, and the numbers of its watch.
-fn show_end(lent: &mut [u64], e: End, watch: Watch) -> u64
+fn show_end(lent: &mut [u64], end: &End, watch: &Watch) -> u64
     requires { 43 ≤ length lent.old }
-    ensures { Showing (end_numbers e watch) lent.old result lent.new }
+    ensures { Showing (end_numbers end.now watch.now) lent.old result lent.new }
 {
-    let numbers = oam_numbers::numbers_of(e);
-    let answer = show(lent, 0, &numbers);
-    lent[27] = link_end::discovery_of(e).number() as u64;
-    lent[28] = link_limit::intervals(e.meter());
+    let answer = show(lent, 0, &oam_numbers::numbers_of(end));
+    lent[27] = u64::from(end.discovery().number());
+    lent[28] = end.meter().intervals();
     show_watch(lent, watch);
     answer
 }
@@ -174,12 +182,12 @@ pub fn oam_show(state: &[u8], numbers: &mut [u64]) -> u64
     ensures { Showing (end_shown (unpacked state.now) (watch_in state.now) (length numbers.old)) numbers.old result numbers.new }
 {
     match oam_packing::unpack(state) {
-        MaybeEnd::Refused(answer) => answer as u64,
-        MaybeEnd::Is(e) => {
+        Err(refusal) => u64::from(refusal.number()),
+        Ok(end) => {
             if numbers.len() < 43 {
                 return 9;
             }
-            show_end(numbers, e, oam_packing::watch_in(state))
+            show_end(numbers, &end, &oam_packing::watch_in(state))
         }
     }
 }

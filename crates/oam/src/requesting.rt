@@ -4,7 +4,6 @@ ghost use Rattle.theorems_reach.specs.Machine.{start, stop, variables, notify, t
 ghost use Rattle.oam_packing.specs.Octets.{unpacked};
 ghost use Rattle.oam.specs.Machine.{Stepping};
 
-use link_end::MaybeEnd;
 use oam_outcomes::store_outcome;
 
 // Starts a remote loopback.
@@ -12,8 +11,11 @@ pub fn oam_start(state: &mut [u8], out: &mut [u8]) -> u64
     ensures { Stepping (outcome_by (requesting start) (length out.old)) (output_by (requesting start)) (unpacked state.old) state.old out.old result state.new out.new }
 {
     match oam_packing::unpack(state) {
-        MaybeEnd::Refused(answer) => answer as u64,
-        MaybeEnd::Is(e) => store_outcome(link::start(e, out), state),
+        Err(refusal) => u64::from(refusal.number()),
+        Ok(mut end) => {
+            let step = link::start(&mut end, out);
+            store_outcome(&end, step, state)
+        }
     }
 }
 
@@ -22,8 +24,11 @@ pub fn oam_stop(state: &mut [u8], out: &mut [u8]) -> u64
     ensures { Stepping (outcome_by (requesting stop) (length out.old)) (output_by (requesting stop)) (unpacked state.old) state.old out.old result state.new out.new }
 {
     match oam_packing::unpack(state) {
-        MaybeEnd::Refused(answer) => answer as u64,
-        MaybeEnd::Is(e) => store_outcome(link::stop(e, out), state),
+        Err(refusal) => u64::from(refusal.number()),
+        Ok(mut end) => {
+            let step = link::stop(&mut end, out);
+            store_outcome(&end, step, state)
+        }
     }
 }
 
@@ -32,8 +37,11 @@ pub fn oam_request(descriptors: &[u32], state: &mut [u8], out: &mut [u8]) -> u64
     ensures { Stepping (outcome_by (requesting (variables descriptors.now)) (length out.old)) (output_by (requesting (variables descriptors.now))) (unpacked state.old) state.old out.old result state.new out.new }
 {
     match oam_packing::unpack(state) {
-        MaybeEnd::Refused(answer) => answer as u64,
-        MaybeEnd::Is(e) => store_outcome(link::request_variables(e, descriptors, out), state),
+        Err(refusal) => u64::from(refusal.number()),
+        Ok(mut end) => {
+            let step = link::request_variables(&mut end, descriptors, out);
+            store_outcome(&end, step, state)
+        }
     }
 }
 
@@ -42,8 +50,11 @@ pub fn oam_notify(events: &[u64], state: &mut [u8], out: &mut [u8]) -> u64
     ensures { Stepping (outcome_by (requesting (notify events.now)) (length out.old)) (output_by (requesting (notify events.now))) (unpacked state.old) state.old out.old result state.new out.new }
 {
     match oam_packing::unpack(state) {
-        MaybeEnd::Refused(answer) => answer as u64,
-        MaybeEnd::Is(e) => store_outcome(link::notify(e, events, out), state),
+        Err(refusal) => u64::from(refusal.number()),
+        Ok(mut end) => {
+            let step = link::notify(&mut end, events, out);
+            store_outcome(&end, step, state)
+        }
     }
 }
 
@@ -52,8 +63,11 @@ pub fn oam_organization(oui: u32, octets: &[u8], state: &mut [u8], out: &mut [u8
     ensures { Stepping (outcome_by (requesting (tell oui octets.now)) (length out.old)) (output_by (requesting (tell oui octets.now))) (unpacked state.old) state.old out.old result state.new out.new }
 {
     match oam_packing::unpack(state) {
-        MaybeEnd::Refused(answer) => answer as u64,
-        MaybeEnd::Is(e) => store_outcome(link::send_organization(e, oui, octets, out), state),
+        Err(refusal) => u64::from(refusal.number()),
+        Ok(mut end) => {
+            let step = link::send_organization(&mut end, oui, octets, out);
+            store_outcome(&end, step, state)
+        }
     }
 }
 
@@ -69,10 +83,10 @@ pub fn oam_respond(
     ensures { Stepping (outcome_by (requesting (respond attributes.now values.now descriptors.now)) (length out.old)) (output_by (requesting (respond attributes.now values.now descriptors.now))) (unpacked state.old) state.old out.old result state.new out.new }
 {
     match oam_packing::unpack(state) {
-        MaybeEnd::Refused(answer) => answer as u64,
-        MaybeEnd::Is(e) => store_outcome(
-            link::respond(e, attributes, values, descriptors, out),
-            state,
-        ),
+        Err(refusal) => u64::from(refusal.number()),
+        Ok(mut end) => {
+            let step = link::respond(&mut end, attributes, values, descriptors, out);
+            store_outcome(&end, step, state)
+        }
     }
 }

@@ -8,6 +8,7 @@ ghost use Rattle.oam.specs.Writing.{WritingFrame};
 
 use crate::lending::{held_from, lends};
 use frame_body::Found;
+use frame_writer::Sender;
 use oam_outcomes::written_number;
 
 // Writes an Information frame. A TLV is lent as its seven fields in order, or as no number where there is none; numbers
@@ -21,17 +22,14 @@ pub fn oam_write_information(
 ) -> u64
     ensures { WritingFrame (lends local.now && lends remote.now) (message_of source flags (information (parts_from (held_from local.now) (held_from remote.now)))) out.old result out.new }
 {
-    if !lends(local) {
-        return 10;
-    }
-    if !lends(remote) {
+    if !lends(local) || !lends(remote) {
         return 10;
     }
     let found = Found {
         local: held_from(local),
         remote: held_from(remote),
     };
-    written_number(frame_writer::write_information(source, flags, found, out))
+    written_number(frame_writer::write_information(Sender { source, flags }, found, out))
 }
 
 // Writes an Event Notification frame with its number and 1 to 16 events, each lent as seven numbers: its type and its six
@@ -45,14 +43,14 @@ pub fn oam_write_notification(
 ) -> u64
     ensures { WritingFrame true (message_of source flags (notification number (events_of events.now))) out.old result out.new }
 {
-    written_number(frame_writer::write_notification(source, flags, number, events, out))
+    written_number(frame_writer::write_notification(Sender { source, flags }, number, events, out))
 }
 
 // Writes a Variable Request frame. A descriptor is one number, the branch above the leaf's sixteen bits.
 pub fn oam_write_request(source: u64, flags: u16, descriptors: &[u32], out: &mut [u8]) -> u64
     ensures { WritingFrame true (message_of source flags (request descriptors.now)) out.old result out.new }
 {
-    written_number(frame_writer::write_request(source, flags, descriptors, out))
+    written_number(frame_writer::write_request(Sender { source, flags }, descriptors, out))
 }
 
 // Writes a Variable Response frame of containers as they stand in a frame, none or more; octets that are not containers to the
@@ -60,14 +58,14 @@ pub fn oam_write_request(source: u64, flags: u16, descriptors: &[u32], out: &mut
 pub fn oam_write_response(source: u64, flags: u16, containers: &[u8], out: &mut [u8]) -> u64
     ensures { WritingFrame (all_containers containers.now) (message_of source flags (response (containers_of containers.now))) out.old result out.new }
 {
-    written_number(frame_writer::write_response(source, flags, containers, out))
+    written_number(frame_writer::write_response(Sender { source, flags }, containers, out))
 }
 
 // Writes a Loopback Control frame.
 pub fn oam_write_loopback(source: u64, flags: u16, command: u8, out: &mut [u8]) -> u64
     ensures { WritingFrame true (message_of source flags (loopback command)) out.old result out.new }
 {
-    written_number(frame_writer::write_loopback(source, flags, command, out))
+    written_number(frame_writer::write_loopback(Sender { source, flags }, command, out))
 }
 
 // Writes an organization specific frame: the OUI and the organization's data.
@@ -80,5 +78,5 @@ pub fn oam_write_organization(
 ) -> u64
     ensures { WritingFrame true (message_of source flags (organization oui octets.now)) out.old result out.new }
 {
-    written_number(frame_writer::write_organization(source, flags, oui, octets, out))
+    written_number(frame_writer::write_organization(Sender { source, flags }, oui, octets, out))
 }

@@ -2,78 +2,51 @@
 // the octets of each part.
 #![tactic(auto)]
 
-ghost use Rattle.std.specs.Prelude.{◌≡◌, [], ◌∷◌};
-ghost use Rattle.oam_packing.specs.Parts.{together};
-ghost use Rattle.oam_packing.specs.Settings.{settings_numbers};
-ghost use Rattle.oam_packing.specs.Link.{link_numbers};
-ghost use Rattle.oam_packing.specs.Peers.{peer_numbers};
-ghost use Rattle.oam_packing.specs.Roles.{role_numbers};
-ghost use Rattle.oam_packing.specs.Meter.{meter_shown};
-ghost use Rattle.oam_packing.specs.Own.{own_numbers};
+ghost use Rattle.std.specs.Prelude.{◌≡◌};
+ghost use Rattle.link_peer.specs.Peers.{record_says};
 ghost use Rattle.oam_packing.specs.Numbers.{numbers_of};
 
-use link_end::{End, Link, Own, Peer};
-use link_limit::Meter;
-use link_loopback::Role;
-use link_peer::Settings;
+use link_end::End;
 use oam_packing::{is_known, last_number};
-use octets::bit_of;
 
 // All in one array: an array for each part would be read again number by number.
-fn join_numbers(
-    settings: Settings,
-    link: Link,
-    peer: Peer,
-    role: Role,
-    meter: Meter,
-    own: Own,
-) -> [u64; 27]
-    ensures { result ≡ together (settings_numbers settings ∷ link_numbers link ∷ peer_numbers peer ∷ role_numbers role ∷ meter_shown meter ∷ own_numbers own ∷ []) }
-{
-    let held = peer.held;
-    let last = peer.last;
-    let i = link_peer::record_says(held);
-    [
-        settings.configuration as u64,
-        settings.size as u64,
-        settings.oui as u64,
-        settings.vendor as u64,
-        settings.source,
-        settings.required as u64,
-        bit_of(link.up) as u64,
-        link.lost as u64,
-        peer.kept as u64,
-        bit_of(link_peer::is_held(held)) as u64,
-        i.version as u64,
-        i.revision as u64,
-        i.state as u64,
-        i.configuration as u64,
-        i.oampdu as u64,
-        i.oui as u64,
-        i.vendor as u64,
-        bit_of(is_known(last)) as u64,
-        last_number(last) as u64,
-        role.number() as u64,
-        link_limit::ticks(meter),
-        link_limit::written_frames(meter) as u64,
-        own.revision as u64,
-        own.number as u64,
-        bit_of(own.gasp) as u64,
-        bit_of(own.critical) as u64,
-        bit_of(own.owed) as u64,
-    ]
-}
-
 #[tactic(auto, unfolding(oam_packing::specs::Numbers::numbers_of))]
-pub fn numbers_of(e: End) -> [u64; 27]
-    ensures { result ≡ numbers_of e }
+pub fn numbers_of(end: &End) -> [u64; 27]
+    ensures { result ≡ numbers_of end.now }
 {
-    join_numbers(
-        e.settings(),
-        e.link(),
-        e.peer(),
-        e.role(),
-        e.meter(),
-        e.own(),
-    )
+    let settings = end.settings();
+    let link = end.link();
+    let peer = end.peer();
+    let says = link_peer::record_says(peer.held);
+    let meter = end.meter();
+    let own = end.own();
+    [
+        u64::from(settings.configuration),
+        u64::from(settings.size),
+        u64::from(settings.oui),
+        u64::from(settings.vendor),
+        settings.source,
+        u64::from(settings.required),
+        u64::from(link.up),
+        u64::from(link.lost),
+        u64::from(peer.kept),
+        u64::from(peer.held.is_some()),
+        u64::from(says.version),
+        u64::from(says.revision),
+        u64::from(says.state),
+        u64::from(says.configuration),
+        u64::from(says.oampdu),
+        u64::from(says.oui),
+        u64::from(says.vendor),
+        u64::from(is_known(peer.last)),
+        u64::from(last_number(peer.last)),
+        u64::from(end.role().number()),
+        meter.ticks(),
+        u64::from(meter.written_frames()),
+        u64::from(own.revision),
+        u64::from(own.number),
+        u64::from(own.gasp),
+        u64::from(own.critical),
+        u64::from(own.owed),
+    ]
 }

@@ -3,7 +3,7 @@ use Prim.Native.Nat.{◌^◌, ◌<◌}
 use native.Mathlib.Omega.{arith}
 use Rattle.link_end.specs.declared.News.{News}
 use Rattle.link_end.specs.declared.News.TheVariants.{Nothing, Frame, Events}
-use Rattle.link.specs.declared.Outcome.{Outcome}
+use Rattle.link.specs.Outcomes.{Outcome}
 use Rattle.oam_outcomes.specs.Stepped.{kind_of, stepped_number}
 
 pub kind_small : (shown : News) → kind_of shown < 4

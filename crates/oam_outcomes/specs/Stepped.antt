@@ -2,7 +2,7 @@
 use Rattle.std.specs.Prelude.{ℕ, ◌+◌, ◌*◌, ◌%◌, ◌^◌, List, cond, eqb}
 use Rattle.link_end.specs.declared.News.{News}
 use Rattle.link_end.specs.declared.News.TheVariants.{Nothing, Frame, Events}
-use Rattle.link.specs.declared.Outcome.{Outcome}
+use Rattle.link.specs.Outcomes.{Outcome}
 use Rattle.oam_packing.specs.Octets.{packed_in}
 
 -- what is shown: 0 nothing, 1 the frame, 2 new events

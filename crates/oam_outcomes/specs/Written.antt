@@ -1,7 +1,6 @@
 -- The outcome of an entry that writes.
 use Rattle.std.specs.Prelude.{ℕ, ◌*◌, ◌%◌, ◌^◌}
-use Rattle.frame_writer.specs.declared.Written.{Written}
-use Rattle.frame_writer.specs.declared.Written.TheVariants.{Refused, Wrote}
+use Rattle.frame_writer.specs.Writing.{Written, Refused, Wrote}
 
 -- The answer in the low 8 bits, 0 where it is accepted, and the length written above them. "Every refusal returns its number
 -- and length 0."

@@ -1,15 +1,8 @@
--- Parts stored one after another, octets of a number, and how long the octets and numbers of an end and of a watch are.
-use Prim.Native.Nat.{ℕ, ◌+◌, ◌/◌, ◌%◌, ◌^◌, ◌<◌}
-use mathlib.Core.Path.{◌≡◌, refl, sym, ap, ◌∙◌}
-use mathlib.Core.List.{List, [], ◌∷◌, ◌++◌}
-use mathlib.Core.Bool.{◌&&◌}
-use native.Mathlib.Numerals.{add-one}
-use native.Mathlib.Nat.{mod-eq_of_lt}
-use native.Mathlib.Omega.{arith}
-use lib.Dec.{eqb}
-use lib.ListN.{length, get_or, drop}
-use lib.Seq.{sets, drop-cons}
-use Rattle.octets.specs.Octets.{oct, zeros}
+-- Nothing but zeros; parts stored one after another; and how long the octets and numbers of an end and of a watch are.
+use Rattle.std.proofs.Common.{◌≡◌, arith, refl, sym, ap, ◌∙◌, ℕ, ◌+◌, List, [], ◌∷◌, Bool, ◌&&◌, eqb, length}
+use Rattle.std.specs.List.{list_all}
+use Rattle.std.proofs.lemmas.List.Edits.{sets}
+use Rattle.octets.specs.Octets.{zeros}
 use Rattle.octets.proofs.Stores.{sets-append}
 use Rattle.link_end.specs.declared.End.{End}
 use Rattle.link_windows.specs.declared.Watch.{Watch}
@@ -24,6 +17,11 @@ use Rattle.oam_packing.specs.Numbers.{numbers_of}
 use Rattle.oam_packing.specs.Watches.{frames_octets, seconds_octets, stamp_octets, watch_lengths, watch_length, watch_parts, watch_octets}
 use Rattle.oam_packing.specs.Octets.{end_lengths, end_length, end_parts, packed}
 
+-- nothing but zeros, as a test of each
+pub zeros-all : (x : List ℕ) → zeros x ≡ list_all (λ octet. eqb octet 0) x
+zeros-all [] = refl
+zeros-all (octet ∷ x) = ap (λ (b : Bool). eqb octet 0 && b) (zeros-all x)
+
 abbrev pub lengths : List (List ℕ) → List ℕ
 lengths [] = []
 lengths (x ∷ xs) = length x ∷ lengths xs
@@ -31,21 +29,6 @@ lengths (x ∷ xs) = length x ∷ lengths xs
 stored_together : (xs : List (List ℕ)) (s : List ℕ) (at : ℕ) → stored_at (lengths xs) xs s at ≡ sets s at (together xs)
 stored_together [] s at = refl
 stored_together (x ∷ xs) s at = stored_together xs (sets s at x) (at + length x) ∙ sym (sets-append s at x (together xs))
-
--- a turn of `is_zeros`: what is left from an octet on
-pub next_zero : (x : List ℕ) (i : ℕ) → i < length x → zeros (drop i x) ≡ (eqb (get_or x i 0) 0 && zeros (drop (i + 1) x))
-next_zero x i h = rw (add-one i, drop-cons x i 0 h)
-
--- the octet of a number that fits it
-pub octet_of_lem : {r n : ℕ} → r < 256 → r ≡ n → r ≡ n % 256
-octet_of_lem h e = sym (mod-eq_of_lt h) ∙ ap (λ (m : ℕ). m % 256) e
-
--- the octets of a number of eight, by halves
-oct_eight : (n : ℕ) → oct 8 n ≡ oct 4 (n / 2 ^ 32) ++ oct 4 n
-oct_eight n = let upper : n / 256 / 256 / 256 / 256 ≡ n / 2 ^ 32 = omega arith in rw upper
-
-pub halves : {u l : List ℕ} (n : ℕ) → u ≡ oct 6 (n / 2 ^ 32) → l ≡ oct 6 n → drop 2 u ++ drop 2 l ≡ oct 8 n
-halves n p q = rw (p, q) (sym (oct_eight n))
 
 -- every part has its length
 pub parts_long : (e : End) → lengths (end_parts e) ≡ end_lengths
@@ -70,10 +53,13 @@ pub watch_long : (w : Watch) → length (watch_octets w) ≡ watch_length
 unfolding watch_octets frames_octets seconds_octets stamp_octets
 watch_long w = refl
 
-pub watch_stored : (w : Watch) (s : List ℕ) → stored_at watch_lengths (watch_parts w) s end_length ≡ sets s end_length (watch_octets w)
-unfolding watch_octets
-watch_stored w s =
-    ap (λ (ns : List ℕ). stored_at ns (watch_parts w) s end_length) (sym (watch_parts_long w)) ∙ stored_together (watch_parts w) s end_length
+pub watch_stored : (w : Watch) (s : List ℕ) (at : ℕ) {frames seconds stamp : List ℕ}
+    → frames ≡ frames_octets w.frames → seconds ≡ seconds_octets w.seconds → stamp ≡ stamp_octets w.stamp w.bad
+    → sets (sets (sets s at frames) (at + 24) seconds) (at + 40) stamp ≡ sets s at (watch_octets w)
+unfolding watch_octets frames_octets seconds_octets stamp_octets
+watch_stored w s at p q r =
+    let third : at + 40 ≡ at + 24 + 16 = omega arith in
+    rw (p, q, r, third) (stored_together (watch_parts w) s at)
 
 pub numbers_long : (e : End) → length (numbers_of e) ≡ 27
 unfolding numbers_of

@@ -3,8 +3,7 @@ use Rattle.std.specs.Prelude.{ℕ, List, [], ◌∷◌, ◌++◌, Bool, cond, �
 use Rattle.std.proofs.lemmas.List.Edits.{sets}
 use Rattle.octets.specs.Octets.{total}
 use Rattle.link_end.specs.declared.End.{End}
-use Rattle.link_end.specs.declared.MaybeEnd.{MaybeEnd}
-use Rattle.link_end.specs.declared.MaybeEnd.TheVariants.{Refused}
+use Rattle.link_end.specs.Parts.{Refused, MaybeEnd}
 use Rattle.link_end.specs.Ranges.{end_with, checked}
 use Rattle.link_windows.specs.declared.Watch.{Watch}
 use Rattle.link_windows.specs.Watches.{phase_of}

@@ -1,13 +1,10 @@
 -- What an end keeps of its peer: the kept field, the record, the last event number received.
-use Rattle.std.specs.Prelude.{ℕ, ◌+◌, List, [], ◌∷◌, ◌++◌, Bool, true, false, cond, ◌&&◌, eqb, length, get_or, drop}
+use Rattle.std.specs.Prelude.{ℕ, ◌+◌, List, [], ◌∷◌, ◌++◌, Bool, true, false, cond, ◌&&◌, eqb, length, get_or, drop, Option, None, Some}
 use Rattle.octets.specs.Octets.{total, fields_at, octs}
 use Rattle.octets.specs.Bits.{bit_of}
 use Rattle.frame_body.specs.declared.Information.{Information}
 use Rattle.frame_body.specs.Information.{information_widths, information_values, information_of}
-use Rattle.link_peer.specs.declared.Record.{Record}
 use Rattle.link_peer.specs.Peers.{is_held, record_says, record_of}
-use Rattle.link_end.specs.declared.Last.{Last}
-use Rattle.link_end.specs.declared.Last.TheVariants.{Never, Number}
 use Rattle.link_end.specs.declared.Peer.{Peer}
 use Rattle.oam_packing.specs.Parts.{part_of, held_or_zero}
 
@@ -16,32 +13,32 @@ use Rattle.oam_packing.specs.Parts.{part_of, held_or_zero}
 abbrev pub record_widths : List ℕ
 record_widths = 1 ∷ information_widths
 
-abbrev pub record_numbers : Record → List ℕ
+abbrev pub record_numbers : Option Information → List ℕ
 record_numbers r = bit_of (is_held r) ∷ information_values (record_says r)
 
-abbrev pub record_with : List ℕ → Record
+abbrev pub record_with : List ℕ → Option Information
 record_with n = record_of (eqb (get_or n 0 0) 1) (information_of (drop 1 n))
 
 -- ---- the last event number: whether one is known, then the number
 
-abbrev pub known : Last → Bool
-known Never = false
-known (Number n) = true
+abbrev pub known : Option ℕ → Bool
+known None = false
+known (Some n) = true
 
-abbrev pub last_number : Last → ℕ
-last_number Never = 0
-last_number (Number n) = n
+abbrev pub last_number : Option ℕ → ℕ
+last_number None = 0
+last_number (Some n) = n
 
-abbrev pub last_of : Bool → ℕ → Last
-last_of known n = cond known (Number n) Never
+abbrev pub last_of : Bool → ℕ → Option ℕ
+last_of known n = cond known (Some n) None
 
 abbrev pub last_widths : List ℕ
 last_widths = 1 ∷ 2 ∷ []
 
-abbrev pub last_numbers : Last → List ℕ
+abbrev pub last_numbers : Option ℕ → List ℕ
 last_numbers l = bit_of (known l) ∷ last_number l ∷ []
 
-abbrev pub last_with : List ℕ → Last
+abbrev pub last_with : List ℕ → Option ℕ
 last_with n = last_of (eqb (get_or n 0 0) 1) (get_or n 1 0)
 
 -- ---- the peer

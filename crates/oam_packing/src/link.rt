@@ -1,33 +1,30 @@
 // The link of an end.
-ghost use Rattle.std.specs.Prelude.{◌≡◌, length};
-ghost use Rattle.oam_packing.specs.Link.{link_length, link_octets, link_from, is_link};
+ghost use Rattle.oam_packing.specs.Link.{link_octets, link_from, is_link};
 
+use crate::parts::Part;
 use link_end::Link;
-use octets::bit_of;
 
 pub(crate) const LENGTH: usize = 2;
 
-#[tactic(auto, unfolding(crate::specs::Link::link_octets))]
-pub(crate) fn link_octets(l: Link) -> [u8; 2]
-    ensures { result ≡ link_octets l }
-{
-    [bit_of(l.up), l.lost]
-}
+impl Part<LENGTH> for Link {
+    ghost octets = { link_octets };
 
-#[tactic(auto, unfolding(crate::specs::Link::link_from))]
-pub(crate) fn link_from(octets: &[u8]) -> Link
-    requires { length octets.now ≡ link_length }
-    ensures { result ≡ link_from octets.now }
-{
-    Link {
-        up: octets[0] == 1,
-        lost: octets[1],
+    ghost from = { link_from };
+
+    ghost fitting = { is_link };
+
+    #[tactic(auto, unfolding(crate::specs::Link::link_octets))]
+    fn put(self, out: &mut [u8], at: usize) {
+        octets::put_octets(out, at, &[u8::from(self.up), self.lost]);
     }
-}
 
-pub(crate) fn is_link(octets: &[u8]) -> bool
-    requires { length octets.now ≡ link_length }
-    ensures { result ≡ is_link octets.now }
-{
-    octets[0] <= 1
+    #[tactic(auto, unfolding(crate::specs::Link::link_from))]
+    fn from_octets(kept: &[u8; LENGTH]) -> Link {
+        let &[up, lost] = kept;
+        Link { up: up == 1, lost }
+    }
+
+    fn are_octets(kept: &[u8; LENGTH]) -> bool {
+        kept[0] <= 1
+    }
 }

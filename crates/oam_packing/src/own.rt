@@ -1,46 +1,50 @@
 // What an end says of itself.
-ghost use Rattle.std.specs.Prelude.{◌≡◌, length};
-ghost use Rattle.oam_packing.specs.Own.{own_length, own_octets, own_from, is_own};
+ghost use Rattle.oam_packing.specs.Own.{own_octets, own_from, is_own};
 
+use crate::parts::Part;
 use link_end::Own;
-use octets::{bit_of, split_six};
 
 pub(crate) const LENGTH: usize = 7;
 
-#[tactic(auto, unfolding(crate::specs::Own::own_octets))]
-pub(crate) fn own_octets(o: Own) -> [u8; 7]
-    ensures { result ≡ own_octets o }
-{
-    let revision = split_six(o.revision as u64);
-    let number = split_six(o.number as u64);
-    [
-        revision.e,
-        revision.f,
-        number.e,
-        number.f,
-        bit_of(o.gasp),
-        bit_of(o.critical),
-        bit_of(o.owed),
-    ]
-}
+impl Part<LENGTH> for Own {
+    ghost octets = { own_octets };
 
-#[tactic(auto, unfolding(crate::specs::Own::own_from))]
-pub(crate) fn own_from(octets: &[u8]) -> Own
-    requires { length octets.now ≡ own_length }
-    ensures { result ≡ own_from octets.now }
-{
-    Own {
-        revision: octets::join_two(octets[0], octets[1]),
-        number: octets::join_two(octets[2], octets[3]),
-        gasp: octets[4] == 1,
-        critical: octets[5] == 1,
-        owed: octets[6] == 1,
+    ghost from = { own_from };
+
+    ghost fitting = { is_own };
+
+    #[tactic(auto, unfolding(crate::specs::Own::own_octets))]
+    fn put(self, out: &mut [u8], at: usize) {
+        let [a, b] = self.revision.to_be_bytes();
+        let [c, d] = self.number.to_be_bytes();
+        octets::put_octets(
+            out,
+            at,
+            &[
+                a,
+                b,
+                c,
+                d,
+                u8::from(self.gasp),
+                u8::from(self.critical),
+                u8::from(self.owed),
+            ],
+        );
     }
-}
 
-pub(crate) fn is_own(octets: &[u8]) -> bool
-    requires { length octets.now ≡ own_length }
-    ensures { result ≡ is_own octets.now }
-{
-    octets::all_three(octets[4] <= 1, octets[5] <= 1, octets[6] <= 1)
+    #[tactic(auto, unfolding(crate::specs::Own::own_from))]
+    fn from_octets(kept: &[u8; LENGTH]) -> Own {
+        let &[a, b, c, d, gasp, critical, owed] = kept;
+        Own {
+            revision: u16::from_be_bytes([a, b]),
+            number: u16::from_be_bytes([c, d]),
+            gasp: gasp == 1,
+            critical: critical == 1,
+            owed: owed == 1,
+        }
+    }
+
+    fn are_octets(kept: &[u8; LENGTH]) -> bool {
+        kept[4] <= 1 && kept[5] <= 1 && kept[6] <= 1
+    }
 }

@@ -1,127 +1,113 @@
 // What an end keeps of its peer: the kept field, the record, the last event number received.
-ghost use Rattle.std.specs.Prelude.{◌≡◌, length};
-ghost use Rattle.oam_packing.specs.Peers.{known, last_number, last_of, peer_length, peer_octets, information_from, peer_from, is_peer};
+ghost use Rattle.std.specs.Prelude.{◌≡◌};
+ghost use Rattle.link_peer.specs.Peers.{record_says};
+ghost use Rattle.oam_packing.specs.Peers.{known, last_number, peer_octets, peer_from, is_peer};
 
-use crate::parts::{is_held_or_zero, part};
+use crate::parts::{Part, is_held_or_zero};
 use frame_body::Information;
-use link_end::{Last, Peer};
-use octets::{bit_of, split_six};
+use link_end::Peer;
 
-// The record's octets, after that of the kept field, and where the last event number begins.
-const RECORD_LENGTH: usize = 15;
+pub(crate) const LENGTH: usize = 19;
 
-const LAST: usize = 1 + RECORD_LENGTH;
-
-pub(crate) const LENGTH: usize = LAST + 3;
-
-pub fn is_known(last: Last) -> bool
+// Whether an event number was received since FAULT was entered.
+pub fn is_known(last: Option<u16>) -> bool
     ensures { result ≡ known last }
 {
-    match last {
-        Last::Never => false,
-        Last::Number(_) => true,
-    }
+    last.is_some()
 }
 
 // 0 where none is known.
-pub fn last_number(last: Last) -> u16
+pub fn last_number(last: Option<u16>) -> u16
     ensures { result ≡ last_number last }
 {
-    match last {
-        Last::Never => 0,
-        Last::Number(n) => n,
+    last.unwrap_or_default()
+}
+
+impl Part<LENGTH> for Peer {
+    ghost octets = { peer_octets };
+
+    ghost from = { peer_from };
+
+    ghost fitting = { is_peer };
+
+    #[tactic(auto, unfolding(crate::specs::Peers::peer_octets))]
+    fn put(self, out: &mut [u8], at: usize) {
+        let i = link_peer::record_says(self.held);
+        let [_, kept] = self.kept.to_be_bytes();
+        let [a, b] = i.revision.to_be_bytes();
+        let [c, d] = i.oampdu.to_be_bytes();
+        let [_, e, f, g] = i.oui.to_be_bytes();
+        let [h, j, k, l] = i.vendor.to_be_bytes();
+        let [m, n] = last_number(self.last).to_be_bytes();
+        octets::put_octets(
+            out,
+            at,
+            &[
+                kept,
+                u8::from(self.held.is_some()),
+                i.version,
+                a,
+                b,
+                i.state,
+                i.configuration,
+                c,
+                d,
+                e,
+                f,
+                g,
+                h,
+                j,
+                k,
+                l,
+                u8::from(self.last.is_some()),
+                m,
+                n,
+            ],
+        );
     }
-}
 
-fn last_of(known: bool, number: u16) -> Last
-    ensures { result ≡ last_of known number }
-{
-    if known {
-        Last::Number(number)
-    } else {
-        Last::Never
+    #[tactic(auto, unfolding(crate::specs::Peers::peer_from, crate::specs::Peers::information_from))]
+    fn from_octets(kept: &[u8; LENGTH]) -> Peer {
+        let &[
+            kept,
+            held,
+            version,
+            a,
+            b,
+            state,
+            configuration,
+            c,
+            d,
+            e,
+            f,
+            g,
+            h,
+            j,
+            k,
+            l,
+            known,
+            m,
+            n,
+        ] = kept;
+        let says = Information {
+            version,
+            revision: u16::from_be_bytes([a, b]),
+            state,
+            configuration,
+            oampdu: u16::from_be_bytes([c, d]),
+            oui: u32::from_be_bytes([0, e, f, g]),
+            vendor: u32::from_be_bytes([h, j, k, l]),
+        };
+        Peer {
+            kept: u16::from(kept),
+            held: (held == 1).then_some(says),
+            last: (known == 1).then_some(u16::from_be_bytes([m, n])),
+        }
     }
-}
 
-// A function of its own: of an octet that is read and widened in one step the prover does not know that it fits.
-fn wide(octet: u8) -> u16
-    ensures { result ≡ octet }
-{
-    octet as u16
-}
-
-#[tactic(auto, unfolding(crate::specs::Peers::peer_octets))]
-pub(crate) fn peer_octets(p: Peer) -> [u8; 19]
-    ensures { result ≡ peer_octets p }
-{
-    let held = p.held;
-    let last = p.last;
-    let i = link_peer::record_says(held);
-    let revision = split_six(i.revision as u64);
-    let oampdu = split_six(i.oampdu as u64);
-    let oui = split_six(i.oui as u64);
-    let vendor = split_six(i.vendor as u64);
-    let number = split_six(last_number(last) as u64);
-    [
-        (p.kept % 256) as u8,
-        bit_of(link_peer::is_held(held)),
-        i.version,
-        revision.e,
-        revision.f,
-        i.state,
-        i.configuration,
-        oampdu.e,
-        oampdu.f,
-        oui.d,
-        oui.e,
-        oui.f,
-        vendor.c,
-        vendor.d,
-        vendor.e,
-        vendor.f,
-        bit_of(is_known(last)),
-        number.e,
-        number.f,
-    ]
-}
-
-// What the record says that stands in them, whether it is held or not.
-#[tactic(auto, unfolding(crate::specs::Peers::information_from))]
-fn information_from(octets: &[u8]) -> Information
-    requires { length octets.now ≡ peer_length }
-    ensures { result ≡ information_from octets.now }
-{
-    Information {
-        version: octets[2],
-        revision: octets::join_two(octets[3], octets[4]),
-        state: octets[5],
-        configuration: octets[6],
-        oampdu: octets::join_two(octets[7], octets[8]),
-        oui: octets::join_three(octets[9], octets[10], octets[11]),
-        vendor: octets::join_four(octets[12], octets[13], octets[14], octets[15]),
+    // The record stands after the kept field, and the last event number after it.
+    #[tactic(auto, unfolding(crate::specs::Peers::is_peer))]
+    fn are_octets(kept: &[u8; LENGTH]) -> bool {
+        is_held_or_zero(&kept[1..16]) && is_held_or_zero(&kept[16..])
     }
-}
-
-#[tactic(auto, unfolding(crate::specs::Peers::peer_from, crate::specs::Peers::information_from))]
-pub(crate) fn peer_from(octets: &[u8]) -> Peer
-    requires { length octets.now ≡ peer_length }
-    ensures { result ≡ peer_from octets.now }
-{
-    let i = information_from(octets);
-    Peer {
-        kept: wide(octets[0]),
-        held: link_peer::record_of(octets[1] == 1, i),
-        last: last_of(octets[16] == 1, octets::join_two(octets[17], octets[18])),
-    }
-}
-
-#[tactic(auto, unfolding(crate::specs::Peers::is_peer))]
-pub(crate) fn is_peer(octets: &[u8]) -> bool
-    requires { length octets.now ≡ peer_length }
-    ensures { result ≡ is_peer octets.now }
-{
-    if is_held_or_zero(part(octets, 1, RECORD_LENGTH)) {
-        return is_held_or_zero(part(octets, LAST, 3));
-    }
-    false
 }

@@ -1,29 +1,29 @@
 // The role of an end.
-ghost use Rattle.std.specs.Prelude.{◌≡◌, length};
-ghost use Rattle.oam_packing.specs.Roles.{role_length, role_octets, role_from, is_role};
+ghost use Rattle.oam_packing.specs.Roles.{role_octets, role_from, is_role};
 
+use crate::parts::Part;
 use link_loopback::Role;
 
 pub(crate) const LENGTH: usize = 1;
 
-#[tactic(auto, unfolding(crate::specs::Roles::role_octets))]
-pub(crate) fn role_octets(role: Role) -> [u8; 1]
-    ensures { result ≡ role_octets role }
-{
-    [role.number()]
-}
+impl Part<LENGTH> for Role {
+    ghost octets = { role_octets };
 
-#[tactic(auto, unfolding(crate::specs::Roles::role_from))]
-pub(crate) fn role_from(octets: &[u8]) -> Role
-    requires { length octets.now ≡ role_length }
-    ensures { result ≡ role_from octets.now }
-{
-    link_loopback::role_of(octets[0])
-}
+    ghost from = { role_from };
 
-pub(crate) fn is_role(octets: &[u8]) -> bool
-    requires { length octets.now ≡ role_length }
-    ensures { result ≡ is_role octets.now }
-{
-    octets[0] <= 4
+    ghost fitting = { is_role };
+
+    #[tactic(auto, unfolding(crate::specs::Roles::role_octets))]
+    fn put(self, out: &mut [u8], at: usize) {
+        octets::put_octets(out, at, &[self.number()]);
+    }
+
+    #[tactic(auto, unfolding(crate::specs::Roles::role_from))]
+    fn from_octets(kept: &[u8; LENGTH]) -> Role {
+        Role::from(kept[0])
+    }
+
+    fn are_octets(kept: &[u8; LENGTH]) -> bool {
+        kept[0] <= 4
+    }
 }

@@ -1,62 +1,83 @@
 // The settings of an end.
-ghost use Rattle.std.specs.Prelude.{◌≡◌, length};
-ghost use Rattle.octets.specs.Octets.{num};
-ghost use Rattle.oam_packing.specs.Settings.{settings_length, settings_octets, settings_from};
+ghost use Rattle.std.specs.Prelude.{true};
+ghost use Rattle.oam_packing.specs.Settings.{settings_octets, settings_from};
 
+use crate::parts::Part;
 use link_peer::Settings;
-use octets::split_six;
 
 pub(crate) const LENGTH: usize = 17;
 
-#[tactic(auto, unfolding(crate::specs::Settings::settings_octets))]
-pub(crate) fn settings_octets(s: Settings) -> [u8; 17]
-    ensures { result ≡ settings_octets s }
-{
-    let size = split_six(s.size as u64);
-    let oui = split_six(s.oui as u64);
-    let vendor = split_six(s.vendor as u64);
-    let source = split_six(s.source);
-    [
-        s.configuration,
-        size.e,
-        size.f,
-        oui.d,
-        oui.e,
-        oui.f,
-        vendor.c,
-        vendor.d,
-        vendor.e,
-        vendor.f,
-        source.a,
-        source.b,
-        source.c,
-        source.d,
-        source.e,
-        source.f,
-        s.required,
-    ]
-}
+// Any octets are those of some settings.
+impl Part<LENGTH> for Settings {
+    ghost octets = { settings_octets };
 
-fn source_from(octets: &[u8]) -> u64
-    requires { length octets.now ≡ settings_length }
-    ensures { result ≡ num 6 octets.now 10 }
-{
-    octets::join_six(
-        octets[10], octets[11], octets[12], octets[13], octets[14], octets[15],
-    )
-}
+    ghost from = { settings_from };
 
-#[tactic(auto, unfolding(crate::specs::Settings::settings_from))]
-pub(crate) fn settings_from(octets: &[u8]) -> Settings
-    requires { length octets.now ≡ settings_length }
-    ensures { result ≡ settings_from octets.now }
-{
-    Settings {
-        configuration: octets[0],
-        size: octets::join_two(octets[1], octets[2]),
-        oui: octets::join_three(octets[3], octets[4], octets[5]),
-        vendor: octets::join_four(octets[6], octets[7], octets[8], octets[9]),
-        source: source_from(octets),
-        required: octets[16],
+    ghost fitting = { λ _. true };
+
+    #[tactic(auto, unfolding(crate::specs::Settings::settings_octets))]
+    fn put(self, out: &mut [u8], at: usize) {
+        let [a, b] = self.size.to_be_bytes();
+        let [_, c, d, e] = self.oui.to_be_bytes();
+        let [f, g, h, i] = self.vendor.to_be_bytes();
+        let [_, _, j, k, l, m, n, o] = self.source.to_be_bytes();
+        octets::put_octets(
+            out,
+            at,
+            &[
+                self.configuration,
+                a,
+                b,
+                c,
+                d,
+                e,
+                f,
+                g,
+                h,
+                i,
+                j,
+                k,
+                l,
+                m,
+                n,
+                o,
+                self.required,
+            ],
+        );
+    }
+
+    #[tactic(auto, unfolding(crate::specs::Settings::settings_from))]
+    fn from_octets(kept: &[u8; LENGTH]) -> Settings {
+        let &[
+            configuration,
+            a,
+            b,
+            c,
+            d,
+            e,
+            f,
+            g,
+            h,
+            i,
+            j,
+            k,
+            l,
+            m,
+            n,
+            o,
+            required,
+        ] = kept;
+        Settings {
+            configuration,
+            size: u16::from_be_bytes([a, b]),
+            oui: u32::from_be_bytes([0, c, d, e]),
+            vendor: u32::from_be_bytes([f, g, h, i]),
+            source: u64::from_be_bytes([0, 0, j, k, l, m, n, o]),
+            required,
+        }
+    }
+
+    fn are_octets(_kept: &[u8; LENGTH]) -> bool {
+        true
     }
 }

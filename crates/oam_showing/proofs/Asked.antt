@@ -15,13 +15,13 @@ use Rattle.octets.specs.Layout.{body_start}
 use Rattle.octets.proofs.Bools.{whether}
 use Rattle.frame_tlvs.specs.Walk.{Next, Walk, on_next, walk, met}
 use Rattle.frame_body.specs.Variables.{descriptor_step, descriptor_next, descriptor_walk}
-use Rattle.frame_body.specs.declared.DescriptorStep.{DescriptorStep}
-use Rattle.frame_body.specs.declared.DescriptorStep.TheVariants.{End, Broken, Has}
+use Rattle.frame_body.specs.Variables.{DescriptorStep}
+use Rattle.frame_body.specs.Variables.{DescriptorEnd as End, DescriptorBroken as Broken, Has}
 use Rattle.frame_body.proofs.Wholes.{Described, descriptor_within}
 use Rattle.frame_body.proofs.Places.{unrolled}
 use Rattle.frame.specs.Frame.{Body, information, notification, request, response, loopback, organization, code_of, judgement_of}
 use Rattle.frame.specs.Steps.{Stepped}
-use Rattle.frame.specs.declared.Judgement.TheVariants.{Refused, Accepted}
+use Rattle.frame.specs.Judgement.{Refused, Accepted}
 use Rattle.frame.proofs.Stepping.{shown}
 use Rattle.frame.proofs.Judging.{judged_refused, judged_accepted}
 use Rattle.oam_showing.specs.Showing.{Shown, shows}

@@ -2,7 +2,7 @@
 pub mod Untouched
 pub mod Moving
 pub mod Stored
-mod Cursors
+mod Triples
 pub mod Taking
 pub mod ReadAll
 mod Asked

@@ -16,16 +16,16 @@ use Rattle.frame_body.specs.Information.{information_widths, information_of as i
 use Rattle.frame_tlvs.specs.Events.{event_of, event_at, step_of as events_of, event_step, next_of as event_next_of}
 use Rattle.frame_body.specs.Variables.{descriptor_step, descriptor_next, width_of, container_from, container_step, container_next}
 use Rattle.frame_tlvs.specs.declared.Event.{Event}
-use Rattle.frame_tlvs.specs.declared.tlvs.Tlv.{Tlv}
-use Rattle.frame_tlvs.specs.declared.tlvs.Tlv.TheVariants.{End as TlvEnd, Broken as TlvBroken, At}
-use Rattle.frame_tlvs.specs.declared.Mark.{Mark}
-use Rattle.frame_tlvs.specs.declared.Mark.TheVariants.{End as MarkEnd, Broken as MarkBroken, Unknown, Known}
+use Rattle.frame_tlvs.specs.Tlvs.{Tlv}
+use Rattle.frame_tlvs.specs.Tlvs.{TlvEnd, TlvBroken, At}
+use Rattle.frame_tlvs.specs.Tlvs.{Mark}
+use Rattle.frame_tlvs.specs.Tlvs.{End as MarkEnd, Broken as MarkBroken, Unknown, Known}
 use Rattle.frame_tlvs.specs.declared.Kind.{Kind}
 use Rattle.frame_tlvs.specs.declared.Kind.TheVariants.{Information, Events}
-use Rattle.frame_body.specs.declared.DescriptorStep.{DescriptorStep}
-use Rattle.frame_body.specs.declared.DescriptorStep.TheVariants.{End as DescriptorEnd, Broken as DescriptorBroken, Has}
-use Rattle.frame_body.specs.declared.ContainerStep.{ContainerStep}
-use Rattle.frame_body.specs.declared.ContainerStep.TheVariants.{End, Broken, Value, Indication}
+use Rattle.frame_body.specs.Variables.{DescriptorStep}
+use Rattle.frame_body.specs.Variables.{DescriptorEnd, DescriptorBroken, Has}
+use Rattle.frame_body.specs.Variables.{ContainerStep}
+use Rattle.frame_body.specs.Variables.{End, Broken, Value, Indication}
 use Rattle.frame_body.proofs.Wholes.{Contained, container_within}
 
 -- the same part, with k octets before it

@@ -10,7 +10,7 @@ use lib.ListN.{length, get_or, length-map}
 use lib.Seq.{sets}
 use Rattle.frame.specs.Frame.{Message, Answer, refused, accepted, decode, judgement_of, header_of, fixed_number}
 use Rattle.frame.specs.declared.Header.{Header}
-use Rattle.frame.specs.declared.Judgement.TheVariants.{Refused, Accepted}
+use Rattle.frame.specs.Judgement.{Refused, Accepted}
 use Rattle.frame.proofs.Decoding.{header_long, header_short}
 use Rattle.frame.proofs.Stepping.{shown, refused_number}
 use Rattle.frame.proofs.Judging.{judged_refused, judged_accepted}

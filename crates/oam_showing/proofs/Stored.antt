@@ -2,80 +2,70 @@
 -- that stores them.
 use Prim.Native.Nat.{ℕ, zero, suc, ◌+◌, ◌-◌, ◌*◌, ◌/◌, ◌^◌, ◌<◌, ◌≤◌}
 use mathlib.Core.Path.{◌≡◌, refl, sym, ap, subst, ◌∙◌}
-use mathlib.Core.List.{List, [], ◌∷◌, map, flatten, append-nil}
+use mathlib.Core.List.{List, [], ◌∷◌, map, flatten}
 use native.Mathlib.Nat.{add-zero, zero-add}
 use native.Mathlib.Omega.{arith}
 use borrow.Author.Tests.{ltb-true, ltb-false, lt-ltb}
 use lib.Dec.{ltb, eqb}
-use lib.ListN.{length, get_or, set, take, drop, length-drop, drop_of_length-le}
-use lib.Seq.{sets, take-nil, drop-nil, length-take-le}
+use lib.ListN.{length, take, drop, length-drop}
+use lib.Seq.{sets, length-sets, take-nil, drop-nil, length-take-le}
 use Rattle.frame_tlvs.specs.Walk.{Next, stop, broken, skip, has, Walk, ends, part, on_next, walk, beside}
-use Rattle.frame_tlvs.specs.Counting.{more, behind}
+use Rattle.frame_tlvs.specs.Counting.{more}
 use Rattle.frame_tlvs.specs.declared.Cursor.{Cursor}
 use Rattle.frame_tlvs.specs.Events.{event_step, next_of as event_next_of}
-use Rattle.frame_body.specs.Information.{InformationPart, local, remote, information_step, next_of as information_next_of}
-use Rattle.frame_body.specs.Variables.{Container, value, indication, descriptor_step, descriptor_next, container_step, container_next}
+use Rattle.frame_body.specs.declared.InformationPart.{InformationPart}
+use Rattle.frame_body.specs.declared.InformationPart.TheVariants.{Local as local, Remote as remote}
+use Rattle.frame_body.specs.Information.{information_step, next_of as information_next_of}
+use Rattle.frame_body.specs.Variables.{Container, value, indication, descriptor_step, descriptor_next, ContainerStep, Value, placed_content, as_container_step, container_step, container_next}
 use Rattle.oam_showing.specs.Parts.{Placed, before, placed, row_numbers, row, information_row, event_row, descriptor_row, container_row, stored_rows}
-use Rattle.oam_showing.specs.Storing.{mapped, awaiting, row_at, numbered, rows_from, row_stored, stood_of, next_stored, StoringRow}
-use Rattle.oam_showing.specs.declared.rows.RowStep.{RowStep}
-use Rattle.oam_showing.specs.declared.rows.RowStep.TheVariants.{End, Over, Part}
+use Rattle.oam_showing.specs.Storing.{mapped, awaiting, content_row_of, content_row, part_next, container_row_at, row_at, numbered, rows_from, row_stored, stood_of, next_count, next_stored, StoringRow}
+use Rattle.std.specs.Prelude.{Option, None, Some, Result, Ok, Err}
+use Rattle.octets.specs.declared.refusal.Refusal.{Refusal}
+use Rattle.frame_tlvs.specs.declared.Placed.{Placed as FoundPlaced}
+use Rattle.frame_body.specs.declared.Container.{Container as FoundContainer}
+use Rattle.frame_body.specs.declared.Content.{Content}
+use Rattle.frame_body.specs.declared.Content.TheVariants.{Value as FoundValue, Indication as FoundIndication}
 use Rattle.octets.proofs.Bools.{by_cond, whether}
 use Rattle.frame_tlvs.proofs.Walks.{Ahead, Rest, Then, Leads, turn}
-use Rattle.frame_tlvs.proofs.Rows.{six_cells}
-use Rattle.frame_body.specs.declared.ContainerStep.TheVariants.{Value}
 use Rattle.frame_body.proofs.Wholes.{Contained, container_within}
 use Rattle.frame_body.proofs.Judging.{information_leads}
-use Rattle.frame_body.proofs.Places.{event_leads, descriptor_leads, container_leads}
-use Rattle.octets.proofs.Stores.{sets-append, sets_next}
+use Rattle.frame_tlvs.proofs.Items.{event_leads}
+use Rattle.frame_body.proofs.Places.{descriptor_leads, container_leads}
+use Rattle.octets.proofs.Stores.{sets-append}
 
--- ---- numbers stored one by one
+-- ---- rows that are stored leave the lent numbers as many as they were
 
--- the first n of some numbers, each at its index
-abbrev firsts : ℕ → List ℕ → ℕ → List ℕ → List ℕ
-firsts zero lent to numbers = lent
-firsts (suc n) lent to numbers = set (firsts n lent to numbers) (to + n) (get_or numbers n 0)
+length-row_stored : (count first : ℕ) (row lent : List ℕ) → length (row_stored count first row lent) ≡ length lent
+length-row_stored count first row lent =
+    by_cond (λ l. length l ≡ length lent) (ltb count first) (λ _. refl) (λ _.
+    by_cond (λ l. length l ≡ length lent) (ltb (count - first) (length lent / row_numbers)) (λ _. length-sets lent ((count - first) * row_numbers) row) (λ _. refl))
 
-then_rest : (n : ℕ) (lent : List ℕ) (to : ℕ) (numbers : List ℕ) → n ≤ length numbers
-    → sets lent to numbers ≡ sets (firsts n lent to numbers) (to + n) (drop n numbers)
-then_rest zero lent to numbers h = rw add-zero
-then_rest (suc n) lent to numbers h =
-    let e : to + (n + 1) ≡ to + suc n = omega arith in
-    let d : n + 1 ≡ suc n = omega arith in
-    then_rest n lent to numbers (omega (arith, h)) ∙ (rw (e, d) at (sets_next (firsts n lent to numbers) to numbers n (omega (arith, h))))
-
--- all of them
-pub one_by_one : (n : ℕ) (lent : List ℕ) (to : ℕ) (numbers : List ℕ) → length numbers ≡ n → firsts n lent to numbers ≡ sets lent to numbers
-one_by_one n lent to numbers e =
-    sym (then_rest n lent to numbers (omega (arith, e)) ∙ ap (λ (xs : List ℕ). sets (firsts n lent to numbers) (to + n) xs) (drop_of_length-le numbers {i = n} (omega (arith, e))))
-
--- seven numbers leave no room for zeros
-pub full_row : (kind next skipped : ℕ) (numbers : List ℕ) → length numbers ≡ 7
-    → kind ∷ next ∷ skipped ∷ get_or numbers 0 0 ∷ get_or numbers 1 0 ∷ get_or numbers 2 0 ∷ get_or numbers 3 0 ∷ get_or numbers 4 0 ∷ get_or numbers 5 0 ∷ get_or numbers 6 0 ∷ [] ≡ row kind next skipped numbers
-full_row kind next skipped [] h = absurd (omega arith)
-full_row kind next skipped (a ∷ rest) h =
-    let six : length rest ≡ 6 = omega arith in
-    rw six (ap (λ (xs : List ℕ). kind ∷ next ∷ skipped ∷ a ∷ xs) (sym (six_cells rest six) ∙ sym (append-nil rest)))
-
--- ---- what a function stores of what stands at a cursor
-
--- nothing but what is said of it
-pub as_it_stood : {c : Cursor} {count first : ℕ} {next : Next (ℕ → List ℕ)} {entry : List ℕ}
-    → StoringRow c count first next entry (stood_of c next) (next_stored c.skipped count first next entry)
-as_it_stood = record { stands = refl; stored = refl }
-
--- a part, whose row is stored
-pub part_stored : {c : Cursor} {count first : ℕ} {row : ℕ → List ℕ} {stored : List ℕ} {next : ℕ} {entry exit : List ℕ}
-    → exit ≡ row_stored count first stored entry → stored ≡ row c.skipped → StoringRow c count first (has row next) entry (Part (behind c next)) exit
-part_stored {count = count} {first = first} {entry = entry} e h =
-    record { stands = refl; stored = e ∙ ap (λ (x : List ℕ). row_stored count first x entry) h }
+-- ---- a container as the code finds it
 
 -- a value lies within the frame, and has as many octets as its width says
-pub value_width : (f : List ℕ) (at descriptor width next : ℕ) → container_step f at ≡ Value descriptor width next
-    → (width ≤ next) × (length (take width (drop (next - width) f)) ≡ width)
+value_width : (f : List ℕ) (at descriptor width next : ℕ) → container_step f at ≡ Value descriptor width next
+    → length (take width (drop (next - width) f)) ≡ width
 value_width f at descriptor width next e =
     let h = subst (Contained at (length f)) e (container_within f at) in
     let w : width ≤ next = omega (arith, h.0) in
-    (w, length-take-le width (drop (next - width) f) (omega (arith, w, h.1, length-drop (next - width) f)))
+    length-take-le width (drop (next - width) f) (omega (arith, w, h.1, length-drop (next - width) f))
+
+content_found : (f : List ℕ) (at : ℕ) (descriptor : ℕ) (content : Content) (end : ℕ) → placed_content descriptor content end ≡ container_step f at
+    → has (content_row_of descriptor content end) end ≡ mapped (awaiting container_row) (placed (container_next f (placed_content descriptor content end)))
+content_found f at descriptor (FoundValue width) end e =
+    ap (λ (octets : ℕ). has (λ skipped. row 36 end skipped (descriptor ∷ (end - octets) ∷ octets ∷ [])) end)
+    (sym (value_width f at descriptor width end (sym e)))
+content_found f at descriptor (FoundIndication octet) end e = refl
+
+found : (f : List ℕ) (at : ℕ) (x : Option (Result (FoundPlaced FoundContainer) Refusal)) → as_container_step x ≡ container_step f at
+    → part_next content_row x ≡ mapped (awaiting container_row) (placed (container_next f (as_container_step x)))
+found f at None e = refl
+found f at (Some (Err r)) e = refl
+found f at (Some (Ok p)) e = content_found f at p.part.descriptor p.part.content p.end e
+
+pub container_found : (f : List ℕ) (at : ℕ) (x : Option (Result (FoundPlaced FoundContainer) Refusal)) → as_container_step x ≡ container_step f at
+    → part_next content_row x ≡ container_row_at f at
+container_found f at x e = found f at x e ∙ ap (λ (c : ContainerStep). mapped (awaiting container_row) (placed (container_next f c))) e
 
 -- ---- a walk whose parts are made into something else
 
@@ -205,10 +195,9 @@ module _ (code : ℕ) (f : List ℕ) (from first : ℕ) (lent : List ℕ) where
   abbrev pub Going : List ℕ → Cursor → ℕ → Type 0
   Going now c count = (c.skipped ≤ c.at) × Rest (λ n. row_at code f n) (length f) answer (fold c.skipped count now) c.at
 
-  abbrev pub Gone : Cursor → ℕ → List ℕ → RowStep → Type 0
-  Gone c count now End = (count, now) ≡ answer
-  Gone c count now (Over after) = Going now after count × (c.at < after.at) × (after.at ≤ length f)
-  Gone c count now (Part after) = Going now after (count + 1) × (c.at < after.at) × (after.at ≤ length f)
+  abbrev pub Gone : Cursor → ℕ → ℕ → List ℕ → Option Cursor → Type 0
+  Gone c count count' now None = (count', now) ≡ answer
+  Gone c count count' now (Some after) = Going now after count' × (c.at < after.at) × (after.at ≤ length f) × (count' ≤ count + 1) × (length now ≡ length lent)
 
   pub start : Going lent (record { at = from; skipped = 0 }) 0
   start =
@@ -237,15 +226,18 @@ module _ (code : ℕ) (f : List ℕ) (from first : ℕ) (lent : List ℕ) where
     one_more n a b d = rw (lt-ltb c.skipped (2 ^ 64 - 1) (omega (arith, short, a, b, d)))
 
     gone : (x : Next (ℕ → List ℕ)) → Ahead c.at (length f) x → Filled x → c.skipped ≤ c.at
-        → Then (λ n. row_at code f n) (length f) answer (fold c.skipped count now) x → Gone c count (next_stored c.skipped count first x now) (stood_of c x)
+        → Then (λ n. row_at code f n) (length f) answer (fold c.skipped count now) x
+        → Gone c count (next_count count x) (next_stored c.skipped count first x now) (stood_of c x)
     gone stop a r s h = ended now c.skipped count ∙ h
     gone broken a r s h = ended now c.skipped count ∙ h
-    gone (skip n) a r s (g, h, e) = let m = one_more n s a.0 a.1 in ((omega (arith, m, s, a.0), (g, h, rw m e)), a.0, a.1)
+    gone (skip n) a r s (g, h, e) =
+        let m = one_more n s a.0 a.1 in ((omega (arith, m, s, a.0), (g, h, rw m e)), a.0, a.1, omega arith, l)
     gone (has row n) a r s (g, h, e) =
-        ((omega (arith, s, a.0), (g, h, sym (counted now row c.skipped count (walk (λ m. row_at code f m) g n) l (r c.skipped)) ∙ e)), a.0, a.1)
+        ((omega (arith, s, a.0), (g, h, sym (counted now row c.skipped count (walk (λ m. row_at code f m) g n) l (r c.skipped)) ∙ e)), a.0, a.1, omega arith, length-row_stored count first (row c.skipped) now ∙ l)
 
-    pub one_turn : {stood : RowStep} {exit : List ℕ} → Going now c count → StoringRow c count first (row_at code f c.at) now stood exit → Gone c count exit stood
+    pub one_turn : {count' : ℕ} {stood : Option Cursor} {exit : List ℕ} → Going now c count
+        → StoringRow c first (row_at code f c.at) count now stood count' exit → Gone c count count' exit stood
     one_turn (s, h) r =
-        rw (r.stands, r.stored)
+        rw (r.stands, r.counted, r.stored)
         (gone (row_at code f c.at) (sound code f c.at).ahead (sound code f c.at).filled s
         (turn (λ n. row_at code f n) (length f) (row_leads code f) answer (fold c.skipped count now) c.at h))

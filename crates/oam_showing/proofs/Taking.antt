@@ -10,10 +10,10 @@ use Rattle.frame_tlvs.specs.Walk.{Next, stop, broken, skip, has, Walk, ends, bre
 use Rattle.frame_tlvs.specs.Events.{event_step, next_of as event_next_of, event_walk}
 use Rattle.frame_body.specs.Information.{information_step, next_of as information_next_of, information_walk}
 use Rattle.frame_body.specs.Variables.{descriptor_step, descriptor_next, descriptor_walk, container_step, container_next, container_walk}
-use Rattle.frame_body.specs.declared.DescriptorStep.{DescriptorStep}
-use Rattle.frame_body.specs.declared.DescriptorStep.TheVariants.{End as DescriptorEnd, Broken as DescriptorBroken, Has}
-use Rattle.frame_body.specs.declared.ContainerStep.{ContainerStep}
-use Rattle.frame_body.specs.declared.ContainerStep.TheVariants.{End, Broken, Value, Indication}
+use Rattle.frame_body.specs.Variables.{DescriptorStep}
+use Rattle.frame_body.specs.Variables.{DescriptorEnd, DescriptorBroken, Has}
+use Rattle.frame_body.specs.Variables.{ContainerStep}
+use Rattle.frame_body.specs.Variables.{End, Broken, Value, Indication}
 use Rattle.frame.specs.Frame.{Body, information, notification, request, response, loopback, organization, code_of, Message, accepted, decode}
 use Rattle.frame.specs.Steps.{Stepped}
 use Rattle.oam_showing.specs.Parts.{Placed, before, placed, placed_from, information_placed, events_placed, descriptors_placed, containers_placed, information_row, event_row, descriptor_row, container_row, rows_of}
@@ -22,7 +22,8 @@ use Rattle.oam_showing.specs.Storing.{mapped, awaiting, row_at, numbered, rows_f
 use Rattle.oam_showing.specs.Taking.{unplaced, part_of, unskipped, Taken, Numbered}
 use Rattle.frame_tlvs.proofs.Walks.{Leads, enough}
 use Rattle.frame_body.proofs.Judging.{information_leads}
-use Rattle.frame_body.proofs.Places.{event_leads, descriptor_leads, container_leads}
+use Rattle.frame_tlvs.proofs.Items.{event_leads}
+use Rattle.frame_body.proofs.Places.{descriptor_leads, container_leads}
 use Rattle.frame.proofs.Stepping.{shown, steps_give_parts}
 use Rattle.oam_showing.proofs.Moving.{moved, walk_moved, information_moved, event_moved, descriptor_moved, container_moved}
 use Rattle.oam_showing.proofs.Stored.{beside_mapped}

@@ -1,9 +1,7 @@
 -- What is shown of a line of the sent-event log.
 use Rattle.std.specs.Prelude.{ℕ, List, [], ◌∷◌}
-use Rattle.text_eventlog.specs.Line.{event_in, read_line}
+use Rattle.text_eventlog.specs.Line.{event_in, read_line, Reading, Refused, LineIs}
 use Rattle.text_eventlog.specs.declared.Line.{Line}
-use Rattle.text_eventlog.specs.declared.Reading.{Reading}
-use Rattle.text_eventlog.specs.declared.Reading.TheVariants.{Refused, Line as LineIs}
 use Rattle.oam_showing.specs.Showing.{Shown, shows, roomy}
 
 -- the nine values in the line's order

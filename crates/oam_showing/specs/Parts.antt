@@ -5,7 +5,9 @@ use mathlib.Core.List.{List, [], ◌∷◌, ◌++◌, map, flatten}
 use Rattle.octets.specs.Layout.{body_start, events_start}
 use Rattle.frame_tlvs.specs.Walk.{Next, stop, broken, skip, has, walk, beside}
 use Rattle.frame_tlvs.specs.Events.{event_step, next_of as event_next_of}
-use Rattle.frame_body.specs.Information.{InformationPart, local, remote, information_step, next_of as information_next_of, information_values}
+use Rattle.frame_body.specs.Information.{information_step, next_of as information_next_of, information_values}
+use Rattle.frame_body.specs.declared.InformationPart.{InformationPart}
+use Rattle.frame_body.specs.declared.InformationPart.TheVariants.{Local as local, Remote as remote}
 use Rattle.frame_body.specs.Variables.{Container, value, indication, descriptor_step, descriptor_next, container_step, container_next}
 use Rattle.frame.specs.Frame.{Body, information, notification, request, response, loopback, organization}
 use Rattle.frame_tlvs.specs.declared.Event.{Event}

@@ -6,19 +6,16 @@ ghost use Rattle.frame.specs.Frame.{request};
 ghost use Rattle.oam_showing.specs.Showing.{Showing};
 ghost use Rattle.oam_showing.specs.Asking.{descriptors_of, descriptors_shown, descriptors_in};
 
-use frame::Judgement;
-
 // How many descriptors a body has: each is three octets, and a branch 0 ends them.
 fn count_descriptors(body: &[u8]) -> usize
     ensures { result ≡ length (descriptors_in body.now) }
 {
-    let mut at: usize = 0;
-    let mut count: usize = 0;
-    while at + 2 < body.len() {
-        if body[at] == 0 {
+    let (triples, _) = body.as_chunks::<3>();
+    let mut count = 0;
+    for &[branch, _, _] in triples {
+        if branch == 0 {
             return count;
         }
-        at += 3;
         count += 1;
     }
     count
@@ -29,12 +26,10 @@ fn store_descriptors(body: &[u8], count: usize, descriptors: &mut [u32])
     requires { (count ≡ length (descriptors_in body.now)) × (count ≤ length descriptors.old) }
     ensures { descriptors.new ≡ sets descriptors.old 0 (descriptors_in body.now) }
 {
-    let mut at: usize = 0;
-    let mut i: usize = 0;
-    while i < count {
-        descriptors[i] = octets::join_three(body[at], body[at + 1], body[at + 2]);
-        at += 3;
-        i += 1;
+    let (triples, _) = body.as_chunks::<3>();
+    for i in 0..count {
+        let &[a, b, c] = &triples[i];
+        descriptors[i] = u32::from_be_bytes([0, a, b, c]);
     }
 }
 
@@ -58,8 +53,8 @@ pub fn read_descriptors(frame: &[u8], descriptors: &mut [u32]) -> u64
     ensures { Showing (descriptors_shown frame.now (length descriptors.old)) descriptors.old result descriptors.new }
 {
     match frame::judgement_of(frame) {
-        Judgement::Refused(answer) => answer as u64,
-        Judgement::Accepted(_, _) => {
+        Err(refusal) => u64::from(refusal.number()),
+        Ok(_) => {
             if frame[17] != 2 {
                 return 10;
             }

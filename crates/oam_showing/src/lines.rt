@@ -4,7 +4,7 @@ ghost use Rattle.oam_showing.specs.Showing.{Showing};
 ghost use Rattle.oam_showing.specs.Lines.{line_shown, text_shown};
 
 use crate::storing::show;
-use text_eventlog::{Line, Reading};
+use text_eventlog::Line;
 
 // The nine values of a line.
 fn show_line(lent: &mut [u64], line: Line) -> u64
@@ -34,7 +34,7 @@ pub fn read_line(text: &[u8], values: &mut [u64]) -> u64
         return 9;
     }
     match text_eventlog::read_line(text) {
-        Reading::Refused(answer) => answer as u64,
-        Reading::Line(line) => show_line(values, line),
+        Err(refusal) => u64::from(refusal.number()),
+        Ok(line) => show_line(values, line),
     }
 }

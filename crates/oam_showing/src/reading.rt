@@ -1,11 +1,11 @@
 // A frame, shown as its header and its body's fixed number, alone or with the rows of its parts.
-ghost use Rattle.std.specs.Prelude.{◌≤◌, length};
+ghost use Rattle.std.specs.Prelude.{length};
 ghost use Rattle.oam_showing.specs.Showing.{Showing};
-ghost use Rattle.oam_showing.specs.Reading.{header_numbers, header_shown, frame_shown, all_shown, ShowingAll};
+ghost use Rattle.oam_showing.specs.Reading.{header_shown, frame_shown, all_shown, ShowingAll};
 
 use crate::rows::{start_of, store_rows};
 use crate::storing::show;
-use frame::{Header, Judgement};
+use frame::Header;
 
 // The numbers of a header, as `read` tells them.
 pub const HEADER_NUMBERS: usize = 5;
@@ -16,25 +16,12 @@ pub fn show_header(lent: &mut [u64], header: Header, number: u64) -> u64
 {
     let numbers: [u64; HEADER_NUMBERS] = [
         header.source,
-        header.flags as u64,
-        header.code as u64,
+        u64::from(header.flags),
+        u64::from(header.code),
         number,
-        header.skipped as u64,
+        u64::from(header.skipped),
     ];
     show(lent, 0, &numbers)
-}
-
-// The same where there is room for all five.
-fn store_header(lent: &mut [u64], header: Header, number: u64) -> u64
-    requires { header_numbers ≤ length lent.old }
-    ensures { Showing (header_shown header number) lent.old result lent.new }
-{
-    lent[0] = header.source;
-    lent[1] = header.flags as u64;
-    lent[2] = header.code as u64;
-    lent[3] = number;
-    lent[4] = header.skipped as u64;
-    0
 }
 
 // Reads a frame. Of one that is accepted five numbers are stored in the header: source, flags, code, the body's fixed number
@@ -46,12 +33,12 @@ pub fn read(frame: &[u8], header: &mut [u64]) -> u64
         return 9;
     }
     match frame::judgement_of(frame) {
-        Judgement::Refused(answer) => answer as u64,
-        Judgement::Accepted(_, skipped) => {
-            store_header(
+        Err(refusal) => u64::from(refusal.number()),
+        Ok(accepted) => {
+            show_header(
                 header,
-                frame::header_of(frame, skipped),
-                frame::fixed_number(frame) as u64,
+                frame::header_of(frame, accepted.skipped),
+                u64::from(frame::fixed_number(frame)),
             )
         }
     }
@@ -72,12 +59,12 @@ pub fn read_all(frame: &[u8], first: usize, header: &mut [u64], rows: &mut [u64]
         return 9;
     }
     match frame::judgement_of(frame) {
-        Judgement::Refused(answer) => answer as u64,
-        Judgement::Accepted(_, skipped) => {
-            store_header(
+        Err(refusal) => u64::from(refusal.number()),
+        Ok(accepted) => {
+            show_header(
                 header,
-                frame::header_of(frame, skipped),
-                frame::fixed_number(frame) as u64,
+                frame::header_of(frame, accepted.skipped),
+                u64::from(frame::fixed_number(frame)),
             );
             let code = frame[17];
             let count = store_rows(code, frame, start_of(code), first, rows);

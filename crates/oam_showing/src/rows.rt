@@ -1,239 +1,224 @@
 // The parts of a frame's body as rows of ten numbers, stored in a slice that the caller lends. One walk takes the parts in
 // order, by the steps of their kind, and stores each row at once.
-ghost use Rattle.std.specs.Prelude.{◌≡◌, [], ◌∷◌, ◌+◌, ◌-◌, ◌≤◌, length};
+ghost use Rattle.std.specs.Prelude.{◌≡◌, ◌+◌, ◌≤◌, ◌<◌, ◌^◌, ℕ, List, length};
 ghost use Rattle.std.proofs.lemmas.List.Edits.{sets};
-ghost use Rattle.frame_body.specs.Variables.{indication};
 ghost use Rattle.frame_body.specs.Information.{information_values};
-ghost use Rattle.oam_showing.specs.Parts.{before, row_numbers, row, event_row, descriptor_row, container_row};
-ghost use Rattle.oam_showing.specs.Storing.{information_row_at, event_row_at, descriptor_row_at, container_row_at, row_at, rows_from, start_of, row_stored, StoringRow, StoringRows};
+ghost use Rattle.oam_showing.specs.Parts.{row_numbers, row};
+ghost use Rattle.oam_showing.specs.Storing.{part_row, event_row_of, descriptor_row_of, content_row, tlv_next, part_next, row_at, rows_from, start_of, row_stored, StoringRow, StoringRows};
 
-use frame_body::{ContainerStep, DescriptorStep, Information, InformationNext};
-use frame_tlvs::{Cursor, Event, EventNext};
-use octets::{BODY_START, EVENTS_START};
+use frame_body::{Container, Content, Information, InformationPart};
+use frame_tlvs::{Cursor, Event, Placed};
+use octets::{BODY_START, EVENTS_START, Refusal};
 
 // The numbers of a row: the part's kind, the octet after it, how many TLVs were skipped before it, and what the part says, then
 // zeros.
 const ROW_NUMBERS: usize = 10;
 
-// What stood at a cursor: nothing more, something that is no part, or a part; with the cursor after it.
-#[derive(Drop)]
-pub enum RowStep {
-    End,
-    Over(Cursor),
-    Part(Cursor),
-}
+type Row = [u64; ROW_NUMBERS];
 
-// Stores the numbers of a row one by one: a loop costs more than all the rest.
-fn store_numbers(rows: &mut [u64], to: usize, row: [u64; ROW_NUMBERS])
-    requires { to + row_numbers ≤ length rows.old }
-    ensures { rows.new ≡ sets rows.old to row }
-{
-    rows[to] = row[0];
-    rows[to + 1] = row[1];
-    rows[to + 2] = row[2];
-    rows[to + 3] = row[3];
-    rows[to + 4] = row[4];
-    rows[to + 5] = row[5];
-    rows[to + 6] = row[6];
-    rows[to + 7] = row[7];
-    rows[to + 8] = row[8];
-    rows[to + 9] = row[9];
-}
+// A part of a body, of which a row is made.
+trait Part: Copy {
+    ghost in_row: { Self → ℕ → ℕ → List ℕ };
 
-// Stores the row of the part that comes after a count of parts: not where it is among the first ones, nor where the slice is
-// full.
-fn store_row(rows: &mut [u64], count: usize, first: usize, row: [u64; ROW_NUMBERS])
-    ensures { rows.new ≡ row_stored count first row rows.old }
-{
-    if count < first {
-        return;
-    }
-    let index = count - first;
-    if index < rows.len() / ROW_NUMBERS {
-        store_numbers(rows, index * ROW_NUMBERS, row);
-    }
+    // Its row, with the cursor after it.
+    fn row(self, after: Cursor) -> Row
+        ensures { result ≡ in_row self after.at after.skipped };
 }
 
 // The row of a part's kind, the cursor after it, and its numbers with their zeros.
-fn row(kind: u64, after: Cursor, numbers: [u64; 7]) -> [u64; ROW_NUMBERS]
+fn row(kind: u64, after: Cursor, numbers: [u64; 7]) -> Row
     ensures { result ≡ row kind after.at after.skipped numbers }
 {
+    let [a, b, c, d, e, f, g] = numbers;
     [
         kind,
         after.at as u64,
         after.skipped as u64,
-        numbers[0],
-        numbers[1],
-        numbers[2],
-        numbers[3],
-        numbers[4],
-        numbers[5],
-        numbers[6],
+        a,
+        b,
+        c,
+        d,
+        e,
+        f,
+        g,
     ]
 }
 
-// That of an Information TLV.
-fn information_row(kind: u64, i: Information, after: Cursor) -> [u64; ROW_NUMBERS]
-    ensures { result ≡ row kind after.at after.skipped (information_values i) }
+fn information_values(i: Information) -> [u64; 7]
+    ensures { result ≡ information_values i }
 {
-    let numbers = [
-        i.version as u64,
-        i.revision as u64,
-        i.state as u64,
-        i.configuration as u64,
-        i.oampdu as u64,
-        i.oui as u64,
-        i.vendor as u64,
-    ];
-    row(kind, after, numbers)
+    [
+        u64::from(i.version),
+        u64::from(i.revision),
+        u64::from(i.state),
+        u64::from(i.configuration),
+        u64::from(i.oampdu),
+        u64::from(i.oui),
+        u64::from(i.vendor),
+    ]
 }
 
-fn event_row(event: Event, after: Cursor) -> [u64; ROW_NUMBERS]
-    ensures { result ≡ event_row (before event after.at, after.skipped) }
-{
-    let numbers = [
-        event.kind as u64,
-        event.timestamp,
-        event.window,
-        event.threshold,
-        event.errors,
-        event.error_total,
-        event.event_total,
-    ];
-    row(34, after, numbers)
-}
+impl Part for InformationPart {
+    ghost in_row = { part_row };
 
-fn descriptor_row(descriptor: u32, after: Cursor) -> [u64; ROW_NUMBERS]
-    ensures { result ≡ descriptor_row (before descriptor after.at, after.skipped) }
-{
-    row(35, after, [descriptor as u64, 0, 0, 0, 0, 0, 0])
-}
-
-// A container with a value, whose octets end before the next one, and one with an indication.
-fn value_row(descriptor: u32, width: usize, after: Cursor) -> [u64; ROW_NUMBERS]
-    requires { width ≤ after.at }
-    ensures { result ≡ row 36 after.at after.skipped (descriptor ∷ (after.at - width) ∷ width ∷ []) }
-{
-    let start = after.at - width;
-    let numbers = [descriptor as u64, start as u64, width as u64, 0, 0, 0, 0];
-    row(36, after, numbers)
-}
-
-fn indication_row(descriptor: u32, octet: u8, after: Cursor) -> [u64; ROW_NUMBERS]
-    ensures { result ≡ container_row (before (indication descriptor octet) after.at, after.skipped) }
-{
-    row(37, after, [descriptor as u64, octet as u64, 0, 0, 0, 0, 0])
-}
-
-// What stands at a cursor of an Information frame, its row stored; below, of the other kinds.
-fn information_row_at(
-    frame: &[u8],
-    cursor: Cursor,
-    rows: &mut [u64],
-    count: usize,
-    first: usize,
-) -> RowStep
-    ensures { StoringRow cursor count first (information_row_at frame.now cursor.at) rows.old result rows.new }
-{
-    match frame_body::information_next(frame, cursor) {
-        InformationNext::End(_) => RowStep::End,
-        InformationNext::Broken => RowStep::End,
-        InformationNext::Skip(after) => RowStep::Over(after),
-        InformationNext::Local(i, after) => {
-            store_row(rows, count, first, information_row(32, i, after));
-            RowStep::Part(after)
-        }
-        InformationNext::Remote(i, after) => {
-            store_row(rows, count, first, information_row(33, i, after));
-            RowStep::Part(after)
+    fn row(self, after: Cursor) -> Row {
+        match self {
+            InformationPart::Local(i) => row(32, after, information_values(i)),
+            InformationPart::Remote(i) => row(33, after, information_values(i)),
         }
     }
 }
 
-fn event_row_at(
-    frame: &[u8],
-    cursor: Cursor,
-    rows: &mut [u64],
-    count: usize,
-    first: usize,
-) -> RowStep
-    ensures { StoringRow cursor count first (event_row_at frame.now cursor.at) rows.old result rows.new }
-{
-    match frame_tlvs::event_next(frame, cursor) {
-        EventNext::End(_) => RowStep::End,
-        EventNext::Broken => RowStep::End,
-        EventNext::Skip(after) => RowStep::Over(after),
-        EventNext::Has(event, after) => {
-            store_row(rows, count, first, event_row(event, after));
-            RowStep::Part(after)
+impl Part for Event {
+    ghost in_row = { event_row_of };
+
+    fn row(self, after: Cursor) -> Row {
+        let numbers = [
+            u64::from(self.kind),
+            self.timestamp,
+            self.window,
+            self.threshold,
+            self.errors,
+            self.error_total,
+            self.event_total,
+        ];
+        row(34, after, numbers)
+    }
+}
+
+// A descriptor.
+impl Part for u32 {
+    ghost in_row = { descriptor_row_of };
+
+    fn row(self, after: Cursor) -> Row {
+        row(35, after, [u64::from(self), 0, 0, 0, 0, 0, 0])
+    }
+}
+
+// A value's octets end before the next container.
+impl Part for Container {
+    ghost in_row = { content_row };
+
+    fn row(self, after: Cursor) -> Row {
+        let descriptor = u64::from(self.descriptor);
+        match self.content {
+            Content::Value(width) => {
+                let start = after.at.saturating_sub(width);
+                let numbers = [descriptor, start as u64, width as u64, 0, 0, 0, 0];
+                row(36, after, numbers)
+            }
+            Content::Indication(octet) => {
+                row(37, after, [descriptor, u64::from(octet), 0, 0, 0, 0, 0])
+            }
         }
     }
 }
 
-fn descriptor_row_at(
-    frame: &[u8],
-    cursor: Cursor,
-    rows: &mut [u64],
-    count: usize,
-    first: usize,
-) -> RowStep
-    ensures { StoringRow cursor count first (descriptor_row_at frame.now cursor.at) rows.old result rows.new }
+// One by one: `copy_from_slice` is a call of the C library's `memmove`, which the archive is not to need.
+fn store_numbers(lent: &mut [u64], to: usize, row: &Row)
+    requires { to + row_numbers ≤ length lent.old }
+    ensures { lent.new ≡ sets lent.old to row.now }
 {
-    let skipped = cursor.skipped;
-    match frame_body::descriptor_step(frame, cursor.at) {
-        DescriptorStep::End => RowStep::End,
-        DescriptorStep::Broken => RowStep::End,
-        DescriptorStep::Has(descriptor, next) => {
-            let after = Cursor { at: next, skipped };
-            store_row(rows, count, first, descriptor_row(descriptor, after));
-            RowStep::Part(after)
-        }
-    }
+    let &[kind, next, skipped, a, b, c, d, e, f, g] = row;
+    lent[to] = kind;
+    lent[to + 1] = next;
+    lent[to + 2] = skipped;
+    lent[to + 3] = a;
+    lent[to + 4] = b;
+    lent[to + 5] = c;
+    lent[to + 6] = d;
+    lent[to + 7] = e;
+    lent[to + 8] = f;
+    lent[to + 9] = g;
 }
 
-fn container_row_at(
-    frame: &[u8],
-    cursor: Cursor,
-    rows: &mut [u64],
-    count: usize,
+// Where rows go: the slice that is lent for them, how many parts are passed over, and how many parts there were.
+#[derive(Drop)]
+struct Rows<'a> {
+    lent: &'a mut [u64],
     first: usize,
-) -> RowStep
-    ensures { StoringRow cursor count first (container_row_at frame.now cursor.at) rows.old result rows.new }
-{
-    let skipped = cursor.skipped;
-    match frame_body::container_step(frame, cursor.at) {
-        ContainerStep::End => RowStep::End,
-        ContainerStep::Broken => RowStep::End,
-        ContainerStep::Value(descriptor, width, next) => {
-            let after = Cursor { at: next, skipped };
-            store_row(rows, count, first, value_row(descriptor, width, after));
-            RowStep::Part(after)
-        }
-        ContainerStep::Indication(descriptor, octet, next) => {
-            let after = Cursor { at: next, skipped };
-            store_row(rows, count, first, indication_row(descriptor, octet, after));
-            RowStep::Part(after)
-        }
-    }
+    count: usize,
 }
 
-// What stands at a cursor of a frame by its code. Codes beyond 3 have no parts.
-fn row_at(
-    code: u8,
-    frame: &[u8],
-    cursor: Cursor,
-    rows: &mut [u64],
-    count: usize,
-    first: usize,
-) -> RowStep
-    ensures { StoringRow cursor count first (row_at code frame.now cursor.at) rows.old result rows.new }
-{
-    match code {
-        0 => information_row_at(frame, cursor, rows, count, first),
-        1 => event_row_at(frame, cursor, rows, count, first),
-        2 => descriptor_row_at(frame, cursor, rows, count, first),
-        3 => container_row_at(frame, cursor, rows, count, first),
-        _ => RowStep::End,
+impl Rows<'_> {
+    // Takes the row of the next part: it is not stored where the part is among the first ones, nor where the slice is full.
+    fn store(&mut self, row: Row)
+        requires { self.old.count + 1 < 2 ^ 64 }
+        ensures stored { self.new.lent.now ≡ row_stored self.old.count self.old.first row self.old.lent.now }
+        ensures counted { self.new.count ≡ self.old.count + 1 }
+        ensures same { (self.new.first ≡ self.old.first) × (self.new.lent.ghost_name ≡ self.old.lent.ghost_name) }
+    {
+        let count = self.count;
+        self.count += 1;
+        if count < self.first {
+            return;
+        }
+        let index = count - self.first;
+        if index < self.lent.len() / ROW_NUMBERS {
+            store_numbers(self.lent, index * ROW_NUMBERS, &row);
+        }
+    }
+
+    // Takes the part that was found at a cursor, and gives the cursor after it; below, of a walk over TLVs.
+    fn take<P: Part>(
+        &mut self,
+        found: Option<Result<Placed<P>, Refusal>>,
+        cursor: Cursor,
+    ) -> Option<Cursor>
+        requires { self.old.count + 1 < 2 ^ 64 }
+        ensures taken { StoringRow cursor self.old.first (part_next P.in_row found) self.old.count self.old.lent.now result self.new.count self.new.lent.now }
+        ensures same { (self.new.first ≡ self.old.first) × (self.new.lent.ghost_name ≡ self.old.lent.ghost_name) }
+    {
+        let Some(Ok(placed)) = found else {
+            return None;
+        };
+        let after = Cursor {
+            at: placed.end,
+            skipped: cursor.skipped,
+        };
+        self.store(placed.part.row(after));
+        Some(after)
+    }
+
+    fn take_tlv<P: Part>(
+        &mut self,
+        found: Option<Result<Placed<Option<P>>, Refusal>>,
+        cursor: Cursor,
+    ) -> Option<Cursor>
+        requires { self.old.count + 1 < 2 ^ 64 }
+        ensures taken { StoringRow cursor self.old.first (tlv_next P.in_row found) self.old.count self.old.lent.now result self.new.count self.new.lent.now }
+        ensures same { (self.new.first ≡ self.old.first) × (self.new.lent.ghost_name ≡ self.old.lent.ghost_name) }
+    {
+        let Some(Ok(placed)) = found else {
+            return None;
+        };
+        let Some(part) = placed.part else {
+            return Some(Cursor {
+                at: placed.end,
+                skipped: frame_tlvs::more(cursor.skipped),
+            });
+        };
+        let after = Cursor {
+            at: placed.end,
+            skipped: cursor.skipped,
+        };
+        self.store(part.row(after));
+        Some(after)
+    }
+
+    // What stands at a cursor of a frame by its code. Codes beyond 3 have no parts.
+    fn take_at(&mut self, code: u8, frame: &[u8], cursor: Cursor) -> Option<Cursor>
+        requires { self.old.count + 1 < 2 ^ 64 }
+        ensures taken { StoringRow cursor self.old.first (row_at code frame.now cursor.at) self.old.count self.old.lent.now result self.new.count self.new.lent.now }
+        ensures same { (self.new.first ≡ self.old.first) × (self.new.lent.ghost_name ≡ self.old.lent.ghost_name) }
+    {
+        match code {
+            0 => self.take_tlv(frame_body::information_step(frame, cursor.at), cursor),
+            1 => self.take_tlv(frame_tlvs::event_step(frame, cursor.at), cursor),
+            2 => self.take(frame_body::descriptor_step(frame, cursor.at), cursor),
+            3 => self.take(frame_body::container_step(frame, cursor.at), cursor),
+            _ => None,
+        }
     }
 }
 
@@ -254,23 +239,17 @@ pub(crate) fn store_rows(
 ) -> usize
     ensures { StoringRows (rows_from code frame.now from) first rows.old result rows.new }
 {
+    let mut rows = Rows {
+        lent: rows,
+        first,
+        count: 0,
+    };
     let mut cursor = Cursor {
         at: from,
         skipped: 0,
     };
-    let mut count: usize = 0;
-    loop {
-        match row_at(code, frame, cursor, rows, count, first) {
-            RowStep::End => {
-                return count;
-            }
-            RowStep::Over(after) => {
-                cursor = after;
-            }
-            RowStep::Part(after) => {
-                cursor = after;
-                count += 1;
-            }
-        }
+    while let Some(after) = rows.take_at(code, frame, cursor) {
+        cursor = after;
     }
+    rows.count
 }

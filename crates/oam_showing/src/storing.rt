@@ -5,13 +5,8 @@ ghost use Rattle.oam_showing.specs.Showing.{shows, Showing};
 pub fn show(lent: &mut [u64], answer: u64, numbers: &[u64]) -> u64
     ensures { Showing (shows answer numbers.now) lent.old result lent.new }
 {
-    let mut i: usize = 0;
-    while i < numbers.len() {
-        if lent.len() <= i {
-            return answer;
-        }
+    for i in 0..numbers.len().min(lent.len()) {
         lent[i] = numbers[i];
-        i += 1;
     }
     answer
 }

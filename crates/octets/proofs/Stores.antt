@@ -1,16 +1,12 @@
--- Runs of stores in a list, and one turn of the loops that store octets and test numbers.
-use Prim.Native.Nat.{ℕ, suc, ◌+◌, ◌-◌, ◌^◌, ◌<◌, ◌≤◌, min}
-use mathlib.Core.Path.{◌≡◌, refl, ap, ◌∙◌}
-use mathlib.Core.List.{List, [], ◌∷◌, ◌++◌}
-use mathlib.Core.Bool.{true, ◌&&◌}
-use native.Mathlib.Numerals.{add-one}
-use native.Mathlib.Nat.{add-zero, add-suc}
-use native.Mathlib.Omega.{arith}
-use borrow.Author.Tests.{leb-true, leb-false}
-use lib.Dec.{ltb, leb}
-use lib.ListN.{length, get_or, drop, drop_of_length-le, set}
-use lib.Seq.{sets, set_comm, set_out, drop-cons}
-use Rattle.octets.specs.Octets.{fit}
+-- Runs of stores in a list, and numbers that fit in octets.
+use Rattle.std.proofs.Common.{◌≡◌, refl, ap, ◌∙◌, ℕ, zero, suc, ◌+◌, ◌-◌, ◌*◌, ◌/◌, ◌^◌, ◌<◌, ◌≤◌, min, List, [], ◌∷◌, ◌++◌, Bool, true, false, ltb, leb, eqb, length, get_or, drop, arith, add-zero, add-one, append_assoc}
+use Rattle.std.proofs.Math.ListN.{set, drop_of_length-le}
+use Rattle.std.proofs.Math.Seq.{set_comm, set_out, drop-cons}
+use Rattle.std.proofs.lemmas.List.{drop-drop}
+use Rattle.std.proofs.lemmas.List.Edits.{sets, sets-eq}
+use Rattle.std.proofs.Math.Nat.{pow-suc, add-suc, div-eq_of_lt, lt-div-mul-add, one-le-pow}
+use borrow.Author.Tests.{ltb-true, ltb-false, leb-true, leb-false, eq-eqb, ne_eqb}
+use borrow.Rule.Slice.PartMut.{put_mid}
 use Rattle.octets.proofs.Bools.{whether}
 
 -- a run of stores in two runs
@@ -38,28 +34,45 @@ pub none_past : (l : List ℕ) (i : ℕ) (xs : List ℕ) → length l ≤ i → 
 none_past l i [] h = refl
 none_past l i (x ∷ xs) h = ap (λ (m : List ℕ). sets m (suc i) xs) (set_out l i x h) ∙ none_past l (suc i) xs (omega (arith, h))
 
--- where all is stored that there is, or all that there is room for, no more is
-pub stored_all : (l : List ℕ) (at i : ℕ) (xs : List ℕ) → at ≤ length l → i ≡ min (length xs) (length l - at) → sets l (at + i) (drop i xs) ≡ l
-stored_all l at i xs h e =
-    whether (leb (length xs) i) (λ t. rw (drop_of_length-le xs (leb-true (length xs) i t)))
-    (λ f. none_past l (at + i) (drop i xs) (omega (arith, h, e, leb-false (length xs) i f)))
-
--- a turn of `all_fit`
-pub next_fit : (ws vs : List ℕ) (i : ℕ) → i < length ws → i < length vs
-    → fit (drop i ws) (drop i vs) ≡ (ltb (get_or vs i 0) (256 ^ get_or ws i 0) && fit (drop (i + 1) ws) (drop (i + 1) vs))
-next_fit ws vs i h k = rw (add-one i, drop-cons ws i 0 h, drop-cons vs i 0 k)
-
 -- a list of no length is empty
 pub empty : (text : List ℕ) → length text ≡ 0 → text ≡ []
 empty [] h = refl
 empty (x ∷ text) h = absurd (omega arith)
 
 -- past the widths or past the numbers there is nothing to test
-fit_none : (ws : List ℕ) → fit ws [] ≡ true
-fit_none [] = refl
-fit_none (w ∷ ws) = refl
 
-pub fit_end : (ws vs : List ℕ) (i : ℕ) → min (length ws) (length vs) ≤ i → fit (drop i ws) (drop i vs) ≡ true
-fit_end ws vs i h =
-    whether (leb (length ws) i) (λ t. rw (drop_of_length-le ws (leb-true (length ws) i t)))
-    (λ f. let n : length vs ≤ i = omega (arith, leb-false (length ws) i f) in rw (drop_of_length-le vs n) (fit_none (drop i ws)))
+-- ---- what is stored at once
+
+-- a part that is written at once is a run of stores
+pub stored : (a e : ℕ) (l xs ys : List ℕ) → ys ≡ xs → e ≡ a + length xs → e ≤ length l → put_mid a (e - a) l ys ≡ sets l a xs
+stored a e l xs ys p q h =
+    let z : a + (e - a) ≡ a + length xs = omega arith in
+    rw (p, drop-drop (e - a) a l, sets-eq xs l a (omega arith), z, append_assoc)
+
+-- where all is stored that there is, or all that there is room for, no more is
+pub stored_all : (l : List ℕ) (at i : ℕ) (xs : List ℕ) → at ≤ length l → i ≡ min (length xs) (length l - at) → sets l (at + i) (drop i xs) ≡ l
+stored_all l at i xs h e =
+    whether (leb (length xs) i) (λ t. rw (drop_of_length-le xs (leb-true (length xs) i t)))
+    (λ f. none_past l (at + i) (drop i xs) (omega (arith, h, e, leb-false (length xs) i f)))
+
+-- ---- numbers that fit
+
+-- a shift by whole octets leaves nothing exactly where the number fits them
+pow_octets : (w : ℕ) → 2 ^ (8 * w) ≡ 256 ^ w
+pow_octets zero = refl
+pow_octets (suc w) =
+    let e : 8 * suc w ≡ suc (suc (suc (suc (suc (suc (suc (suc (8 * w)))))))) = omega arith in
+    let p = pow_octets w in
+    rw (e, pow-suc, pow-suc, pow-suc, pow-suc, pow-suc, pow-suc, pow-suc, pow-suc, pow-suc) (omega arith)
+
+above : (v m : ℕ) → 0 < m → v / m ≡ 0 → m ≤ v → ⊥
+above v m p e h = let k : v < v / m * m + m = lt-div-mul-add p in omega (arith, rw e at k)
+
+below : (v m : ℕ) → 0 < m → (b : Bool) → ltb v m ≡ b → eqb (v / m) 0 ≡ b
+below v m p true t = let h : v < m = ltb-true v m t in eq-eqb _ _ (div-eq_of_lt h)
+below v m p false f =
+    let h : m ≤ v = ltb-false v m f in
+    ne_eqb _ _ (λ e. absurd (omega (arith, above v m p e h)))
+
+pub shifted : (v w : ℕ) → eqb (v / 2 ^ (8 * w)) 0 ≡ ltb v (256 ^ w)
+shifted v w = rw pow_octets (below v (256 ^ w) (one-le-pow w 256 (omega arith)) _ refl)

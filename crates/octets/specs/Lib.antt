@@ -3,3 +3,4 @@ pub mod Octets
 pub mod Bits
 pub mod Layout
 pub mod Tests
+pub mod Refusals

@@ -1,20 +1,14 @@
-// What every crate stands on: numbers in octets both ways, octets stored in a lent output, bits, tests that are joined, and the
-// layout of a frame by name.
+// What every crate stands on: the refusals, numbers that fit in octets, octets stored in a lent output, and the layout of a frame
+// by name. Numbers and octets go to one another by std's `from_be_bytes` and `to_be_bytes`.
 #![tactic(auto)]
 
-mod bits;
 mod fitting;
-mod joining;
-mod splitting;
+mod refusal;
 mod storing;
-mod tests;
 
-pub use bits::bit_of;
 pub use fitting::{all_fit, fits};
-pub use joining::{join_four, join_six, join_three, join_two};
-pub use splitting::{Six, split_six};
+pub use refusal::Refusal;
 pub use storing::put_octets;
-pub use tests::{all_four, all_three, either, smaller};
 
 // A frame's octets, without its FCS: from 60 to 1,514.
 pub const SHORTEST_FRAME: usize = 60;

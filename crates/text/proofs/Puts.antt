@@ -2,11 +2,11 @@
 -- after the other.
 use Prim.Native.Nat.{ℕ, ◌+◌, ◌≤◌, ◌<◌}
 use mathlib.Core.Path.{◌≡◌, refl, ap, ◌∙◌}
-use mathlib.Core.List.{List, [], ◌++◌}
+use mathlib.Core.List.{List, [], ◌++◌, append_assoc}
 use native.Mathlib.Omega.{arith}
 use borrow.Author.Tests.{le-leb, lt-leb}
-use lib.ListN.{length, length-append}
-use lib.Seq.{sets, length-sets}
+use lib.ListN.{length, take, drop, length-append}
+use lib.Seq.{sets, sets-eq, length-sets, length-take-le, take_at, drop_at}
 use native.Mathlib.Nat.{add_assoc}
 use Rattle.text.specs.Put.{Put, Stored}
 use Rattle.text.proofs.Bounds.{by_bound}
@@ -55,3 +55,10 @@ joined {a} {b} {entry} {at = at} p q room =
       next = second.next ∙ rw (first.next, length-append a b) (add_assoc at (length a) (length b));
       output = second.output ∙ rw (first.output, first.next, sets-append entry at a b);
     }
+
+-- octets that were stored are read from where they stand
+pub stored_there : (out : List ℕ) (at : ℕ) (text : List ℕ) → at + length text ≤ length out → take (length text) (drop at (sets out at text)) ≡ text
+stored_there out at text h =
+    ap (λ (x : List ℕ). take (length text) (drop at x)) (sets-eq text out at h ∙ append_assoc (take at out) text _)
+    ∙ ap (take (length text)) (drop_at (take at out) _ at (length-take-le at out (omega arith)))
+    ∙ take_at text _ (length text) refl

@@ -1,8 +1,9 @@
 -- An input that is taken a character at a time, by calls that are each lent a piece of it and room for what is said. The
 -- definitions are for any steps, whatever their state; the listing's, over lines, are `lister` of `text_listing`, those of a
 -- capture file, over octets, `captures` of `text_captures`.
-use Rattle.std.specs.Prelude.{ℕ, ◌+◌, ◌-◌, ◌≤◌, ◌<◌, List, [], ◌∷◌, ◌++◌, cond, ltb, length, take, drop}
+use Rattle.std.specs.Prelude.{ℕ, ◌+◌, ◌-◌, ◌≤◌, ◌<◌, List, [], ◌∷◌, ◌++◌, cond, ltb, length, take, drop, ◌≡◌}
 use Rattle.std.proofs.lemmas.List.Edits.{sets}
+use Rattle.text.specs.declared.pieces.Place.{Place}
 
 -- The step at a character: the state after it, what is said there, and the room that is wanted before it is taken. At the
 -- input's end there may be something left to say.
@@ -56,6 +57,20 @@ unfoldable pub gone_on : {S : Type 0} → Steps S → List ℕ → Stage S → S
 gone_on r piece a =
     stage_after a
     (fed_from r (length a.output - a.waiting) (record { state = a.state; taken = a.taken; said = [] }) (drop a.taken piece))
+
+-- what a call promises: the stage that it comes to, and that what waits fits into the output
+pub record Feeds {S : Type 0} (r : Steps S) (piece : List ℕ) (a b : Stage S) : Type 0 where
+  pub comes : b ≡ gone_on r piece a
+  pub fits : a.waiting ≤ length a.output → b.waiting ≤ length a.output
+
+-- where an input stands between two characters: what is known of it, and the working frame that each call is lent
+pub record State (P : Type 0) : Type 0 where
+  pub progress : P
+  pub frame : List ℕ
+
+-- the stage of a call at a place, with its lent memory
+abbrev pub stage : {P : Type 0} → P → Place → (frame out : List ℕ) → Stage (State P)
+stage p at f out = record { state = record { progress = p; frame = f }; taken = at.taken; waiting = at.waiting; output = out }
 
 -- ---- calls one after the other
 

@@ -4,14 +4,16 @@ ghost use Rattle.std.proofs.lemmas.List.Edits.{sets};
 ghost use Rattle.text.specs.Decimal.{decimal, field};
 ghost use Rattle.text.specs.Put.{Put};
 
-// How many digits a number has.
+use crate::room::room_from;
+
+// How many digits a number has. (Nothing is there to go over but what is left of it.)
 pub fn digits(n: u64) -> usize
     ensures { result ≡ length (decimal n) }
 {
     let mut count: usize = 1;
     let mut rest = n;
     while 10 <= rest {
-        rest = rest / 10;
+        rest /= 10;
         count += 1;
     }
     count
@@ -22,12 +24,10 @@ fn store(out: &mut [u8], at: usize, count: usize, n: u64)
     requires { (count ≡ length (decimal n)) × (at + count ≤ length out.old) }
     ensures { out.new ≡ sets out.old at (decimal n) }
 {
-    let mut left = count;
     let mut rest = n;
-    while 0 < left {
-        left -= 1;
-        out[at + left] = 48 + (rest % 10) as u8;
-        rest = rest / 10;
+    for i in (0..count).rev() {
+        out[at + i] = b'0' + (rest % 10) as u8;
+        rest /= 10;
     }
 }
 
@@ -36,10 +36,7 @@ pub fn put_decimal(out: &mut [u8], at: usize, n: u64, after: u8) -> usize
     ensures { Put (field n after) out.old at result out.new }
 {
     let count = digits(n);
-    if out.len() <= at {
-        return at;
-    }
-    if out.len() - at <= count {
+    if room_from(out, at) <= count {
         return at;
     }
     store(out, at, count, n);

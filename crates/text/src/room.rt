@@ -5,8 +5,5 @@ ghost use Rattle.std.specs.Prelude.{◌≡◌, ◌-◌, length};
 pub fn room_from(out: &[u8], at: usize) -> usize
     ensures { result ≡ length out.now - at }
 {
-    if out.len() < at {
-        return 0;
-    }
-    out.len() - at
+    out.len().saturating_sub(at)
 }

@@ -1,4 +1,3 @@
--- Orders has the numbers, Steps how a call goes on, Rows that there is room for what is said, and the end.
-mod Orders
+-- Steps has how a call goes on, Rows that there is room for what is said, and the end.
 mod Steps
 mod Rows

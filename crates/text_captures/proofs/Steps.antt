@@ -2,16 +2,15 @@
 use Rattle.std.proofs.Common.{◌≡◌, ℕ, suc, ◌+◌, ◌-◌, ◌^◌, ◌<◌, ◌≤◌, min, true, false, List, [], ◌∷◌, ◌++◌, length, get_or, take, drop, set, sym, refl, ap, ◌∙◌, append-nil, add-zero, add-one, arith, length-drop, length-set, take-append-drop, length-take-le, drop-drop, le-ltb, eq-eqb, ne_eqb}
 use lib.Seq.{sets, length-sets}
 use Rattle.text.specs.Put.{Put, Stored}
-use Rattle.text.specs.Pieces.{Fed, fed_from, gone_on, stage_after}
+use Rattle.text.specs.Pieces.{Fed, fed_from, Stage, gone_on, stage_after, stage, Feeds}
 use Rattle.text.proofs.Puts.{fitting}
 use Rattle.text.proofs.Stages.{ended, stopped, one_further}
 use Rattle.text_listing.specs.Rows.{row_room}
 use Rattle.text_captures.specs.declared.progress.Awaited.{Awaited}
 use Rattle.text_captures.specs.declared.progress.Awaited.TheVariants.{FileHeader, RecordHeader, Frame, Nothing}
 use Rattle.text_captures.specs.declared.progress.Progress.{Progress}
-use Rattle.text_captures.specs.declared.progress.Acted.{Acted}
-use Rattle.text_captures.specs.declared.feeding.Place.{Place}
-use Rattle.text_captures.specs.Feeding.{is_stopped, wanted, ahead, is_last, with_filled, acted, row_said, State, captures, stage, Feeds, Leads, Collects}
+use Rattle.text.specs.declared.pieces.Place.{Place}
+use Rattle.text_captures.specs.Feeding.{is_stopped, wanted, ahead, is_last, with_filled, acted, Acted, row_said, State, captures, Leads, Collects}
 
 -- a call that has come to a progress and a working frame at a place of a piece
 abbrev reached : Progress → List ℕ → ℕ → List ℕ → Fed State
@@ -60,7 +59,7 @@ module _ (piece : List ℕ) (p : Progress) (f : List ℕ) (at : ℕ) (going : is
       ≡ fed_from captures room (reached (with_filled p (p.filled + count)) (sets f p.filled octets) (at + count) []) (drop (at + count) piece) =
       ap (fed_from captures room (reached p f at [])) (in_two piece at count)
       ∙ all_collected octets (drop (at + count) piece) p f room at [] going (omega (arith, many)) ∙ rw many in
-      ap (stage_after (stage (record { progress = p; taken = at; waiting = waiting }) f out)) all
+      ap (stage_after (stage p (record { taken = at; waiting = waiting }) f out)) all
 
   -- as many as come before the last one that is awaited, or as the piece has
   pub collects : (count : ℕ) → count ≡ min (ahead p) (length piece - at) → at ≤ length piece
@@ -92,7 +91,7 @@ module _ (p : Progress) (f : List ℕ) (stopped : is_stopped p.awaited ≡ true)
         leads = λ waiting out.
             let place : at + length (drop at piece) ≡ length piece = omega (arith, length-drop at piece) in
             rw (all_passed (drop at piece) (length out - waiting) at [], place, add-zero waiting)
-            (sym (ended captures piece (stage (record { progress = p; taken = length piece; waiting = waiting }) f out) (omega arith)));
+            (sym (ended captures piece (stage p (record { taken = length piece; waiting = waiting }) f out) (omega arith)));
         stops = λ h. absurd (omega arith);
       }
 
@@ -101,53 +100,55 @@ module _ (p : Progress) (f : List ℕ) (stopped : is_stopped p.awaited ≡ true)
 completed : (piece : List ℕ) (p : Progress) (f : List ℕ) (at waiting : ℕ) (out : List ℕ) {r : Acted} {f' : List ℕ} {waiting' : ℕ} {out' : List ℕ}
     → is_last p ≡ true → at < length piece → row_room ≤ length out - waiting
     → f' ≡ set f p.filled (get_or piece at 0) → r ≡ acted p f' → Stored (row_said p.number r.said) out waiting waiting' out'
-    → gone_on captures piece (stage (record { progress = p; taken = at; waiting = waiting }) f out)
-    ≡ gone_on captures piece (stage (record { progress = r.progress; taken = at + 1; waiting = waiting' }) f' out')
+    → gone_on captures piece (stage p (record { taken = at; waiting = waiting }) f out)
+    ≡ gone_on captures piece (stage r.progress (record { taken = at + 1; waiting = waiting' }) f' out')
 completed piece p f at waiting out last within room frame is stored =
-    one_further captures piece (stage (record { progress = p; taken = at; waiting = waiting }) f out) within (rw last room)
+    one_further captures piece (stage p (record { taken = at; waiting = waiting }) f out) within (rw last room)
     ∙ rw (last, stored.next, stored.output, is, frame)
 
 -- ---- where a call of `feed` stands
 
-module _ (from : Place) (f₀ piece out₀ : List ℕ) where
+module _ (p₀ : Progress) (from : Place) (f₀ piece out₀ : List ℕ) where
   -- from here the call comes to the same as from its start
-  pub record Stands (here : Place) (f out : List ℕ) : Type 0 where
-    pub same : gone_on captures piece (stage from f₀ out₀) ≡ gone_on captures piece (stage here f out)
-    pub room : from.waiting ≤ length out₀ → here.waiting ≤ length out₀
+  pub record Stands (p : Progress) (taken waiting : ℕ) (f out : List ℕ) : Type 0 where
+    pub same : gone_on captures piece (stage p₀ from f₀ out₀) ≡ gone_on captures piece (stage p (record { taken = taken; waiting = waiting }) f out)
+    pub room : from.waiting ≤ length out₀ → waiting ≤ length out₀
     pub frames : length f ≡ length f₀
     pub outputs : length out ≡ length out₀
 
   -- at the start
-  pub starts : Stands from f₀ out₀
+  pub starts : Stands p₀ from.taken from.waiting f₀ out₀
   starts = record { same = refl; room = λ h. h; frames = refl; outputs = refl }
 
-  module _ {f out : List ℕ} {here : Place} (s : Stands here f out) where
+  module _ {f out : List ℕ} {p : Progress} {taken waiting : ℕ} (s : Stands p taken waiting f out) where
     -- after octets before the last one that is awaited
-    pub goes : {q : Progress} {f' : List ℕ} {at : ℕ} → Collects piece here.progress f here.taken q f' at → length f' ≡ length f
-        → Stands (record { progress = q; taken = at; waiting = here.waiting }) f' out
-    goes c kept = record { same = s.same ∙ c.leads here.waiting out; room = s.room; frames = kept ∙ s.frames; outputs = s.outputs }
+    pub goes : {q : Progress} {f' : List ℕ} {at : ℕ} → Collects piece p f taken q f' at → length f' ≡ length f → Stands q at waiting f' out
+    goes c kept = record { same = s.same ∙ c.leads waiting out; room = s.room; frames = kept ∙ s.frames; outputs = s.outputs }
 
     -- after that one, and what is said
-    pub says : {r : Acted} {f' out' : List ℕ} {waiting' : ℕ} → is_last here.progress ≡ true → here.taken < length piece → row_room ≤ length out - here.waiting
-        → f' ≡ set f here.progress.filled (get_or piece here.taken 0) → r ≡ acted here.progress f' → length (row_said here.progress.number r.said) ≤ row_room
-        → Put (row_said here.progress.number r.said) out here.waiting waiting' out'
-        → Stands (record { progress = r.progress; taken = here.taken + 1; waiting = waiting' }) f' out'
+    pub says : {r : Acted} {f' out' : List ℕ} {waiting' : ℕ} → is_last p ≡ true → taken < length piece → row_room ≤ length out - waiting
+        → f' ≡ set f p.filled (get_or piece taken 0) → r ≡ acted p f' → length (row_said p.number r.said) ≤ row_room
+        → Put (row_said p.number r.said) out waiting waiting' out'
+        → Stands r.progress (taken + 1) waiting' f' out'
     says {r} last within room frame is most put =
-        let row = row_said here.progress.number r.said in
-        let stored = fitting row out here.waiting put (omega arith) in
+        let row = row_said p.number r.said in
+        let stored = fitting row out waiting put (omega arith) in
         record {
-          same = s.same ∙ completed piece here.progress f here.taken here.waiting out last within room frame is stored;
+          same = s.same ∙ completed piece p f taken waiting out last within room frame is stored;
           room = λ h. omega (arith, stored.within, stored.next, s.outputs);
-          frames = ap length frame ∙ length-set f here.progress.filled _ ∙ s.frames;
-          outputs = ap length stored.output ∙ length-sets out here.waiting row ∙ s.outputs;
+          frames = ap length frame ∙ length-set f p.filled _ ∙ s.frames;
+          outputs = ap length stored.output ∙ length-sets out waiting row ∙ s.outputs;
         }
 
     -- at the call's end
-    feeds : gone_on captures piece (stage here f out) ≡ stage here f out → Feeds from f₀ piece out₀ here f out
+    abbrev here : Stage State
+    here = stage p (record { taken = taken; waiting = waiting }) f out
+
+    feeds : gone_on captures piece here ≡ here → Feeds captures piece (stage p₀ from f₀ out₀) here
     feeds e = record { comes = sym (s.same ∙ e); fits = s.room }
 
-    pub feeds_all : length piece ≤ here.taken → Feeds from f₀ piece out₀ here f out
-    feeds_all h = feeds (ended captures piece (stage here f out) h)
+    pub feeds_all : length piece ≤ taken → Feeds captures piece (stage p₀ from f₀ out₀) here
+    feeds_all h = feeds (ended captures piece here h)
 
-    pub feeds_some : is_last here.progress ≡ true → here.taken < length piece → length out - here.waiting < row_room → Feeds from f₀ piece out₀ here f out
-    feeds_some last within short = feeds (stopped captures piece (stage here f out) within (rw last short))
+    pub feeds_some : is_last p ≡ true → taken < length piece → length out - waiting < row_room → Feeds captures piece (stage p₀ from f₀ out₀) here
+    feeds_some last within short = feeds (stopped captures piece here within (rw last short))

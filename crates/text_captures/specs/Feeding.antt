@@ -1,22 +1,16 @@
 -- How a capture file is fed: an octet at a time, its headers and frames collected in a working frame that is lent.
-use Rattle.std.specs.Prelude.{◌≡◌, ℕ, ◌+◌, ◌-◌, ◌<◌, ◌≤◌, Bool, true, false, cond, List, [], length, ◌==◌, nat_lt, slice_set}
+use Rattle.std.specs.Prelude.{◌≡◌, ℕ, ◌+◌, ◌-◌, ◌<◌, ◌≤◌, Bool, true, false, cond, List, [], length, ◌==◌, nat_lt, slice_set, Option, Some, None}
 use Rattle.std.proofs.lemmas.List.Edits.{sets}
-use Rattle.text.specs.Pieces.{Steps, Stage, gone_on}
+use Rattle.text.specs.Pieces.{Steps, State as StateOf, stage, gone_on}
 use Rattle.text_listing.specs.Rows.{row_of, row_room}
 use Rattle.text_listing.specs.Listing.{following}
 use Rattle.text_listing.specs.Taking.{length_entry}
-use Rattle.text_listing.specs.Feeding.{octets_written}
+use Rattle.text_listing.specs.Feeding.{Finished, Written, Refused as NoRoom, octets_written}
 use Rattle.text_listing.specs.declared.row.Entry.{Entry}
 use Rattle.text_listing.specs.declared.row.Entry.TheVariants.{Refused}
-use Rattle.text_listing.specs.declared.feeding.Finished.{Finished}
-use Rattle.text_listing.specs.declared.feeding.Finished.TheVariants.{Written, Refused as NoRoom}
 use Rattle.text_captures.specs.declared.progress.Awaited.{Awaited}
 use Rattle.text_captures.specs.declared.progress.Awaited.TheVariants.{FileHeader, RecordHeader, Frame, Nothing}
 use Rattle.text_captures.specs.declared.progress.Progress.{Progress}
-use Rattle.text_captures.specs.declared.progress.Said.{Said}
-use Rattle.text_captures.specs.declared.progress.Said.TheVariants.{NoRow, Row}
-use Rattle.text_captures.specs.declared.progress.Acted.{Acted}
-use Rattle.text_captures.specs.declared.feeding.Place.{Place}
 use Rattle.text_captures.specs.Captures.{file_header, is_little, is_capture, record_header, stored_of, original_of}
 
 -- ---- what is awaited
@@ -65,15 +59,20 @@ awaiting_nothing p = record { awaited = Nothing; number = p.number; little = p.l
 
 -- ---- what comes of the octets that were awaited, once the working frame has them
 
+-- the progress after the last octet that was awaited, and the row that is said there, if there is one
+pub record Acted : Type 0 where
+  pub progress : Progress
+  pub said : Option Entry
+
 -- after this answer no record can be found
 abbrev pub stops_with : Progress → ℕ → Acted
-stops_with p answer = record { progress = awaiting_nothing p; said = Row (Refused answer) }
+stops_with p answer = record { progress = awaiting_nothing p; said = Some (Refused answer) }
 
 -- a file's header; a working frame that has no room for it is lent too short
 unfoldable pub after_file_header : Progress → List ℕ → Acted
 after_file_header p f =
     cond (nat_lt (length f) file_header) (stops_with p 9)
-    (cond (is_capture f) (record { progress = awaiting_record p (is_little f); said = NoRow }) (stops_with p 16))
+    (cond (is_capture f) (record { progress = awaiting_record p (is_little f); said = None }) (stops_with p 16))
 
 -- the entry of octets that are stored: "17 before 1"
 abbrev pub stored_entry : List ℕ → ℕ → ℕ → Entry
@@ -81,7 +80,7 @@ stored_entry f stored original = cond (nat_lt stored original) (Refused 17) (len
 
 -- a record's octets
 unfoldable pub after_frame : Progress → List ℕ → Acted
-after_frame p f = record { progress = awaiting_record p p.little; said = Row (stored_entry f p.stored p.original) }
+after_frame p f = record { progress = awaiting_record p p.little; said = Some (stored_entry f p.stored p.original) }
 
 -- the entry where no octet is stored: the same, of a frame that has none
 abbrev pub empty_entry : ℕ → Entry
@@ -92,32 +91,32 @@ unfoldable pub after_record_header : Progress → List ℕ → Acted
 after_record_header p f =
     cond (nat_lt (length f) record_header) (stops_with p 9)
     (cond (stored_of p.little f == 0)
-    (record { progress = awaiting_record p p.little; said = Row (empty_entry (original_of p.little f)) })
-    (record { progress = awaiting_frame p (stored_of p.little f) (original_of p.little f); said = NoRow }))
+    (record { progress = awaiting_record p p.little; said = Some (empty_entry (original_of p.little f)) })
+    (record { progress = awaiting_frame p (stored_of p.little f) (original_of p.little f); said = None }))
 
 abbrev pub acted_by : Awaited → Progress → List ℕ → Acted
 acted_by FileHeader p f = after_file_header p f
 acted_by RecordHeader p f = after_record_header p f
 acted_by Frame p f = after_frame p f
-acted_by Nothing p f = record { progress = p; said = NoRow }
+acted_by Nothing p f = record { progress = p; said = None }
 
 abbrev pub acted : Progress → List ℕ → Acted
 acted p f = acted_by p.awaited p f
 
 -- the octets of what is said
-abbrev pub row_said : ℕ → Said → List ℕ
-row_said n NoRow = []
-row_said n (Row entry) = row_of n entry
+abbrev pub row_said : ℕ → Option Entry → List ℕ
+row_said n None = []
+row_said n (Some entry) = row_of n entry
 
 -- ---- what the file's end leaves to say
 
-abbrev pub left_by : Awaited → ℕ → Said
-left_by FileHeader filled = Row (Refused 16)
-left_by RecordHeader filled = cond (filled == 0) NoRow (Row (Refused 18))
-left_by Frame filled = Row (Refused 18)
-left_by Nothing filled = NoRow
+abbrev pub left_by : Awaited → ℕ → Option Entry
+left_by FileHeader filled = Some (Refused 16)
+left_by RecordHeader filled = cond (filled == 0) None (Some (Refused 18))
+left_by Frame filled = Some (Refused 18)
+left_by Nothing filled = None
 
-abbrev pub left_to_say : Progress → Said
+abbrev pub left_to_say : Progress → Option Entry
 left_to_say p = left_by p.awaited p.filled
 
 abbrev pub last_row : Progress → List ℕ
@@ -126,9 +125,8 @@ last_row p = row_said p.number (left_to_say p)
 -- ---- the steps
 
 -- where a listing stands: the progress, and the working frame
-pub record State : Type 0 where
-  pub progress : Progress
-  pub frame : List ℕ
+abbrev pub State : Type 0
+State = StateOf Progress
 
 -- one octet more, where the working frame has room for it
 abbrev pub frame_with : State → ℕ → List ℕ
@@ -153,21 +151,12 @@ captures = record {
 
 -- ---- what is promised
 
--- the stage of a call at a place, with its lent memory
-abbrev pub stage : Place → List ℕ → List ℕ → Stage State
-stage p f out = record { state = record { progress = p.progress; frame = f }; taken = p.taken; waiting = p.waiting; output = out }
-
--- what `feed` promises: the stage that the call comes to, and that what waits fits into the output
-pub record Feeds (p : Place) (f piece out : List ℕ) (r : Place) (f' out' : List ℕ) : Type 0 where
-  pub comes : stage r f' out' ≡ gone_on captures piece (stage p f out)
-  pub fits : p.waiting ≤ length out → r.waiting ≤ length out
-
 -- a part of a piece that is taken before anything is said: whatever waits, the call comes to the same from there
 abbrev pub Leads : List ℕ → Progress → List ℕ → ℕ → Progress → List ℕ → ℕ → Type 0
 Leads piece p f at p' f' at' =
     (waiting : ℕ) (out : List ℕ)
-    → gone_on captures piece (stage (record { progress = p; taken = at; waiting = waiting }) f out)
-    ≡ gone_on captures piece (stage (record { progress = p'; taken = at'; waiting = waiting }) f' out)
+    → gone_on captures piece (stage p (record { taken = at; waiting = waiting }) f out)
+    ≡ gone_on captures piece (stage p' (record { taken = at'; waiting = waiting }) f' out)
 
 -- what is promised of the octets that are collected: they end with the piece, or before the last one that is awaited
 pub record Collects (piece : List ℕ) (p : Progress) (f : List ℕ) (at : ℕ) (p' : Progress) (f' : List ℕ) (at' : ℕ) : Type 0 where
@@ -177,9 +166,9 @@ pub record Collects (piece : List ℕ) (p : Progress) (f : List ℕ) (at : ℕ) 
   pub stops : at' < length piece → is_last p' ≡ true
 
 -- what `finish` writes, by what is left to say: a refusal says nothing
-abbrev pub finished_by : ℕ → ℕ → Said → Finished
-finished_by octets n NoRow = Written 0
-finished_by octets n (Row entry) = cond (nat_lt octets row_room) (NoRoom 9) (Written (length (row_of n entry)))
+abbrev pub finished_by : ℕ → ℕ → Option Entry → Finished
+finished_by octets n None = Written 0
+finished_by octets n (Some entry) = cond (nat_lt octets row_room) (NoRoom 9) (Written (length (row_of n entry)))
 
 -- what `finish` promises: the result, the row at the output's front, and that it fits
 pub record Finishes (p : Progress) (out : List ℕ) (r : Finished) (out' : List ℕ) : Type 0 where

@@ -17,14 +17,12 @@ pub(crate) fn number(little: bool, octets: &[u8], at: usize) -> u32
     requires { at + 4 ≤ length octets.now }
     ensures { result ≡ number little octets.now at }
 {
-    let a = octets[at];
-    let b = octets[at + 1];
-    let c = octets[at + 2];
-    let d = octets[at + 3];
+    let number = [octets[at], octets[at + 1], octets[at + 2], octets[at + 3]];
     if little {
-        return octets::join_four(d, c, b, a);
+        u32::from_le_bytes(number)
+    } else {
+        u32::from_be_bytes(number)
     }
-    octets::join_four(a, b, c, d)
 }
 
 // Whether a file's numbers are little-endian.
@@ -42,8 +40,5 @@ pub(crate) fn is_capture(little: bool, header: &[u8]) -> bool
     requires { (24 ≤ length header.now) × (little ≡ is_little header.now) }
     ensures { result ≡ is_capture header.now }
 {
-    if number(little, header, 0) != MAGIC {
-        return false;
-    }
-    number(little, header, 20) == LINK_TYPE
+    number(little, header, 0) == MAGIC && number(little, header, 20) == LINK_TYPE
 }

@@ -1,12 +1,14 @@
 // Where a capture file's listing stands between two octets, and what comes of the octets that were awaited.
 ghost use Rattle.std.specs.Prelude.{◌≡◌, ◌≤◌, length, slice_set};
+ghost use Rattle.octets.specs.Refusals.{number};
 ghost use Rattle.text_captures.specs.Feeding.{begun, wanted, is_stopped, ahead, awaiting_record, awaiting_frame, stops_with, after_file_header, stored_entry, empty_entry, after_frame, after_record_header, acted, left_to_say, Collects};
 
 use crate::headers::{FILE_HEADER, RECORD_HEADER, is_capture, is_little, number};
+use octets::Refusal;
 use text_listing::Entry;
 
 // What of the file is awaited: its header, a record's header, a record's octets; or nothing any more.
-#[derive(Clone, Copy, Drop)]
+#[derive(Clone, Copy, PartialEq, Eq)]
 pub enum Awaited {
     FileHeader,
     RecordHeader,
@@ -16,7 +18,7 @@ pub enum Awaited {
 
 // What is awaited, the number of the present row, the file's byte order, the octets that have come of what is awaited, and the
 // present record's two lengths.
-#[derive(Clone, Copy, Drop)]
+#[derive(Clone, Copy)]
 pub struct Progress {
     awaited: Awaited,
     number: u64,
@@ -26,33 +28,12 @@ pub struct Progress {
     original: u32,
 }
 
-// What is said: at most one row.
-#[derive(Drop)]
-pub enum Said {
-    NoRow,
-    Row(Entry),
-}
-
-// The progress after the last octet that was awaited, and what is said there.
-#[derive(Drop)]
-pub struct Acted {
-    pub progress: Progress,
-    pub said: Said,
-}
-
-// A progress, and the place in a piece up to which its octets were taken.
-#[derive(Drop)]
-pub struct Collected {
-    pub progress: Progress,
-    pub at: usize,
-}
-
 // The entry of octets that are stored, of so many that there were.
 fn stored_entry(frame: &[u8], stored: u32, original: u32) -> Entry
     ensures { result ≡ stored_entry frame.now stored original }
 {
     if stored < original {
-        return Entry::Refused(17);
+        return Entry::from(Refusal::Shortened);
     }
     text_listing::length_entry(frame, stored as usize)
 }
@@ -62,14 +43,14 @@ fn empty_entry(original: u32) -> Entry
     ensures { result ≡ empty_entry original }
 {
     if 0 < original {
-        return Entry::Refused(17);
+        return Entry::from(Refusal::Shortened);
     }
-    Entry::Refused(1)
+    Entry::from(Refusal::WrongLength)
 }
 
 impl Progress {
     // Before the first octet.
-    pub(crate) fn begun() -> Progress
+    pub fn start() -> Progress
         ensures { result ≡ begun }
     {
         Progress {
@@ -93,8 +74,7 @@ impl Progress {
     fn wanted(self) -> usize
         ensures { result ≡ wanted self.awaited self.stored }
     {
-        let awaited = self.awaited;
-        match awaited {
+        match self.awaited {
             Awaited::FileHeader => FILE_HEADER,
             Awaited::RecordHeader => RECORD_HEADER,
             Awaited::Frame => self.stored as usize,
@@ -105,180 +85,139 @@ impl Progress {
     fn is_stopped(self) -> bool
         ensures { result ≡ is_stopped self.awaited }
     {
-        let awaited = self.awaited;
-        match awaited {
-            Awaited::FileHeader => false,
-            Awaited::RecordHeader => false,
-            Awaited::Frame => false,
-            Awaited::Nothing => true,
-        }
+        self.awaited == Awaited::Nothing
     }
 
     // How many octets come before the last one that is awaited.
     fn ahead(self) -> usize
         ensures { result ≡ ahead self }
     {
-        let wanted = self.wanted();
-        if wanted <= self.filled {
-            return 0;
-        }
-        wanted - self.filled - 1
+        self.wanted().saturating_sub(self.filled).saturating_sub(1)
     }
 
     // A record's header is awaited, with the next number.
-    fn awaiting_record(self, little: bool) -> Progress
-        ensures { result ≡ awaiting_record self little }
+    fn awaiting_record(&mut self, little: bool)
+        ensures { self.new ≡ awaiting_record self.old little }
     {
-        Progress {
+        *self = Progress {
             awaited: Awaited::RecordHeader,
-            number: std::num::wrapping_add_u64(self.number, 1),
+            number: self.number.wrapping_add(1),
             little,
             filled: 0,
             stored: 0,
             original: 0,
-        }
+        };
     }
 
     // A record's octets are awaited.
-    fn awaiting_frame(self, stored: u32, original: u32) -> Progress
-        ensures { result ≡ awaiting_frame self stored original }
+    fn awaiting_frame(&mut self, stored: u32, original: u32)
+        ensures { self.new ≡ awaiting_frame self.old stored original }
     {
-        Progress {
-            awaited: Awaited::Frame,
-            filled: 0,
-            stored,
-            original,
-            ..self
-        }
+        self.awaited = Awaited::Frame;
+        self.filled = 0;
+        self.stored = stored;
+        self.original = original;
     }
 
-    // No record can be found after this answer.
-    fn stops_with(self, answer: u8) -> Acted
-        ensures { result ≡ stops_with self answer }
+    // No record can be found after this refusal, which is the last row.
+    fn stops_with(&mut self, refusal: Refusal) -> Option<Entry>
+        ensures { record { progress = self.new; said = result } ≡ stops_with self.old (number refusal) }
     {
-        Acted {
-            progress: Progress {
-                awaited: Awaited::Nothing,
-                filled: 0,
-                stored: 0,
-                original: 0,
-                ..self
-            },
-            said: Said::Row(Entry::Refused(answer)),
-        }
+        self.awaited = Awaited::Nothing;
+        self.filled = 0;
+        self.stored = 0;
+        self.original = 0;
+        Some(Entry::from(refusal))
     }
 
     // The file's header is in the working frame, where that has room for it.
-    fn after_file_header(self, frame: &[u8]) -> Acted
-        ensures { result ≡ after_file_header self frame.now }
+    #[tactic(auto, unfolding(crate::specs::Feeding::after_file_header))]
+    fn after_file_header(&mut self, frame: &[u8]) -> Option<Entry>
+        ensures { record { progress = self.new; said = result } ≡ after_file_header self.old frame.now }
     {
         if frame.len() < FILE_HEADER {
-            return self.stops_with(9);
+            return self.stops_with(Refusal::ShortOutput);
         }
         let little = is_little(frame);
         if is_capture(little, frame) {
-            return Acted {
-                progress: self.awaiting_record(little),
-                said: Said::NoRow,
-            };
+            self.awaiting_record(little);
+            return None;
         }
-        self.stops_with(16)
+        self.stops_with(Refusal::NotACapture)
     }
 
     // A record's octets have come.
-    fn after_frame(self, frame: &[u8]) -> Acted
-        ensures { result ≡ after_frame self frame.now }
+    #[tactic(auto, unfolding(crate::specs::Feeding::after_frame))]
+    fn after_frame(&mut self, frame: &[u8]) -> Option<Entry>
+        ensures { record { progress = self.new; said = result } ≡ after_frame self.old frame.now }
     {
         let entry = stored_entry(frame, self.stored, self.original);
-        Acted {
-            progress: self.awaiting_record(self.little),
-            said: Said::Row(entry),
-        }
+        self.awaiting_record(self.little);
+        Some(entry)
     }
 
     // A record's header has come. Where no octet is stored, the record is whole with it.
-    fn after_record_header(self, frame: &[u8]) -> Acted
-        ensures { result ≡ after_record_header self frame.now }
+    #[tactic(auto, unfolding(crate::specs::Feeding::after_record_header))]
+    fn after_record_header(&mut self, frame: &[u8]) -> Option<Entry>
+        ensures { record { progress = self.new; said = result } ≡ after_record_header self.old frame.now }
     {
         if frame.len() < RECORD_HEADER {
-            return self.stops_with(9);
+            return self.stops_with(Refusal::ShortOutput);
         }
         let stored = number(self.little, frame, 8);
         let original = number(self.little, frame, 12);
         if stored == 0 {
-            return Acted {
-                progress: self.awaiting_record(self.little),
-                said: Said::Row(empty_entry(original)),
-            };
+            self.awaiting_record(self.little);
+            return Some(empty_entry(original));
         }
-        Acted {
-            progress: self.awaiting_frame(stored, original),
-            said: Said::NoRow,
-        }
+        self.awaiting_frame(stored, original);
+        None
     }
 
-    // What comes of the octets that were awaited.
-    fn acted(self, frame: &[u8]) -> Acted
-        ensures { result ≡ acted self frame.now }
+    // What comes of the octets that were awaited, and the row that is said, if there is one.
+    fn acted(&mut self, frame: &[u8]) -> Option<Entry>
+        ensures { record { progress = self.new; said = result } ≡ acted self.old frame.now }
     {
-        let awaited = self.awaited;
-        match awaited {
+        match self.awaited {
             Awaited::FileHeader => self.after_file_header(frame),
             Awaited::RecordHeader => self.after_record_header(frame),
             Awaited::Frame => self.after_frame(frame),
-            Awaited::Nothing => Acted {
-                progress: self,
-                said: Said::NoRow,
-            },
+            Awaited::Nothing => None,
         }
     }
 
     // The last octet that is awaited.
-    pub(crate) fn with_last(self, frame: &mut [u8], octet: u8) -> Acted
-        ensures value { result ≡ acted self frame.new }
-        ensures frame_after { frame.new ≡ slice_set frame.old self.filled octet }
+    pub(crate) fn with_last(&mut self, frame: &mut [u8], octet: u8) -> Option<Entry>
+        ensures value { record { progress = self.new; said = result } ≡ acted self.old frame.new }
+        ensures frame_after { frame.new ≡ slice_set frame.old self.old.filled octet }
     {
         octets::put_octets(frame, self.filled, &[octet]);
         self.acted(frame)
     }
 
-    // The octets that a piece has from `at`, up to the last one that is awaited or to the piece's end.
-    pub(crate) fn collect(self, frame: &mut [u8], piece: &[u8], at: usize) -> Collected
+    // The octets that a piece has from `at`, up to the last one that is awaited or to the piece's end: up to where.
+    pub(crate) fn collect(&mut self, frame: &mut [u8], piece: &[u8], at: usize) -> usize
         requires { at ≤ length piece.now }
-        ensures { Collects piece.now self frame.old at result.progress frame.new result.at }
+        ensures { Collects piece.now self.old frame.old at self.new frame.new result }
     {
         if self.is_stopped() {
-            return Collected {
-                progress: self,
-                at: piece.len(),
-            };
+            return piece.len();
         }
-        let count = octets::smaller(self.ahead(), piece.len() - at);
+        let count = self.ahead().min(piece.len() - at);
         octets::put_octets(frame, self.filled, &piece[at..at + count]);
-        Collected {
-            progress: Progress {
-                filled: self.filled + count,
-                ..self
-            },
-            at: at + count,
-        }
+        self.filled += count;
+        at + count
     }
 
     // What is left to say at the file's end.
-    pub(crate) fn left_to_say(self) -> Said
+    pub(crate) fn left_to_say(self) -> Option<Entry>
         ensures { result ≡ left_to_say self }
     {
-        let awaited = self.awaited;
-        match awaited {
-            Awaited::FileHeader => Said::Row(Entry::Refused(16)),
-            Awaited::RecordHeader => {
-                if self.filled == 0 {
-                    return Said::NoRow;
-                }
-                Said::Row(Entry::Refused(18))
-            }
-            Awaited::Frame => Said::Row(Entry::Refused(18)),
-            Awaited::Nothing => Said::NoRow,
+        match self.awaited {
+            Awaited::FileHeader => Some(Entry::from(Refusal::NotACapture)),
+            Awaited::RecordHeader if self.filled == 0 => None,
+            Awaited::RecordHeader | Awaited::Frame => Some(Entry::from(Refusal::CutOff)),
+            Awaited::Nothing => None,
         }
     }
 }

@@ -12,10 +12,8 @@ use lib.Seq.{take-suc-set, take_all}
 use Rattle.frame_writer.specs.Plain.{every}
 use Rattle.text.proofs.Bounds.{by_bound}
 use Rattle.text_eventlog.specs.Digits.{value_of, is_decimal, number_of}
-use Rattle.text_eventlog.specs.declared.digits.Number.TheVariants.{Bad, Is}
-use Rattle.text_eventlog.specs.Line.{last_position, parted, read_values, read_fields}
-use Rattle.text_eventlog.specs.declared.Reading.{Reading}
-use Rattle.text_eventlog.specs.declared.Reading.TheVariants.{Refused}
+use Rattle.std.specs.Prelude.{Some, None}
+use Rattle.text_eventlog.specs.Line.{last_position, parted, read_values, read_fields, Reading, Refused}
 use Rattle.text_eventlog.proofs.Numbers.{number_is, number_bad, all_digits}
 use Rattle.text_eventlog.proofs.Parted.{first, one_field, next_field, digits_one, some_field}
 
@@ -29,7 +27,7 @@ all_left values fs = refl
 
 module _ (i : ℕ) (values : List ℕ) (f : List ℕ) where
   -- a field that is no number
-  pub bad_field : (fs : List (List ℕ)) → number_of f ≡ Bad → left i values (f ∷ fs) ≡ Refused 14
+  pub bad_field : (fs : List (List ℕ)) → number_of f ≡ None → left i values (f ∷ fs) ≡ Refused 14
   unfolding left
   bad_field fs h = rw (number_bad f h, and-false (eqb (suc (length fs)) (9 - i)))
 
@@ -39,7 +37,7 @@ module _ (i : ℕ) (values : List ℕ) (f : List ℕ) where
   no_more h = rw (ne_eqb 1 (9 - i) (λ e. omega arith))
 
   -- one field more
-  pub one_read : (fs : List (List ℕ)) (v : ℕ) → i < 9 → length values ≡ 9 → number_of f ≡ Is v → left i values (f ∷ fs) ≡ left (i + 1) (set values i v) fs
+  pub one_read : (fs : List (List ℕ)) (v : ℕ) → i < 9 → length values ≡ 9 → number_of f ≡ Some v → left i values (f ∷ fs) ≡ left (i + 1) (set values i v) fs
   unfolding left
   one_read fs v h l is =
       let d = number_is f v is in
@@ -52,7 +50,7 @@ unfolding left
 none_left values l = rw (append-nil (take 9 values), take_all 9 values (omega arith))
 
 -- the last field, which takes all that is left
-pub last_read : (s values : List ℕ) (v : ℕ) → length values ≡ 9 → number_of s ≡ Is v → left 8 values (parted s) ≡ read_values last_position (set values 8 v)
+pub last_read : (s values : List ℕ) (v : ℕ) → length values ≡ 9 → number_of s ≡ Some v → left 8 values (parted s) ≡ read_values last_position (set values 8 v)
 last_read s values v l is =
     rw (digits_one s (all_digits s (number_is s v is).0))
     (one_read 8 values s [] v (omega arith) l is ∙ none_left (set values 8 v) (simp length-set l))
@@ -62,7 +60,7 @@ too_many : (values : List ℕ) (f : List ℕ) (fs : List (List ℕ)) → 0 < len
 unfolding left
 too_many values f fs h = rw (ne_eqb (suc (length fs)) 1 (λ e. omega arith))
 
-pub bad_last : (s values : List ℕ) → number_of s ≡ Bad → left 8 values (parted s) ≡ Refused 14
+pub bad_last : (s values : List ℕ) → number_of s ≡ None → left 8 values (parted s) ≡ Refused 14
 bad_last s values d =
     by_bound (length (first s)) (length s)
     (λ h. rw (next_field s h) (too_many values (take (length (first s)) s) (parted (drop (suc (length (first s))) s)) (some_field (drop (suc (length (first s))) s))))

@@ -10,10 +10,9 @@ use lib.ListN.{length, get_or}
 use Rattle.octets.proofs.Bools.{whether, and_l, and_r}
 use Rattle.frame_writer.specs.Plain.{every}
 use Rattle.text_eventlog.specs.Digits.{value_from, value_of, digit, no_leading_zero, is_decimal, number_of, with_digit}
-use Rattle.text_eventlog.specs.declared.digits.Number.{Number}
-use Rattle.text_eventlog.specs.declared.digits.Number.TheVariants.{Bad, Is}
+use Rattle.std.specs.Prelude.{Option, Some, None}
 
-apart : {n : ℕ} {P : Type 0} → Bad ≡ Is n → P
+apart : {n : ℕ} {P : Type 0} → None ≡ Some n → P
 apart e = let z : ◌≡◌ {A = ℕ} 0 1 = cc in absurd (omega arith)
 
 -- ---- a field, octet by octet
@@ -30,27 +29,27 @@ value_grows [] n = omega arith
 value_grows (d ∷ ds) n = omega (arith, value_grows ds (n * 10 + (d - 48)))
 
 -- the number of a field whose first digits said n, by the octets left
-unfoldable pub left_of : ℕ → List ℕ → Number
-left_of n ds = cond (every digit ds && ltb (value_from n ds) (2 ^ 64)) (Is (value_from n ds)) Bad
+unfoldable pub left_of : ℕ → List ℕ → Option ℕ
+left_of n ds = cond (every digit ds && ltb (value_from n ds) (2 ^ 64)) (Some (value_from n ds)) None
 
 pub all_left : (ds : List ℕ) → no_leading_zero ds ≡ true → number_of ds ≡ left_of 0 ds
 unfolding number_of is_decimal left_of
 all_left ds h = rw h
 
-pub not_led : (ds : List ℕ) → no_leading_zero ds ≡ false → number_of ds ≡ Bad
+pub not_led : (ds : List ℕ) → no_leading_zero ds ≡ false → number_of ds ≡ None
 unfolding number_of is_decimal
 not_led ds h = rw h
 
-pub none_left : (n : ℕ) → n < 2 ^ 64 → left_of n [] ≡ Is n
+pub none_left : (n : ℕ) → n < 2 ^ 64 → left_of n [] ≡ Some n
 unfolding left_of
 none_left n h = rw (lt-ltb n (2 ^ 64) h)
 
 -- what a number says of the test that it was told by
-told_is : (b : Bool) (m : ℕ) {n : ℕ} → cond b (Is m) Bad ≡ Is n → (b ≡ true) × (m ≡ n)
+told_is : (b : Bool) (m : ℕ) {n : ℕ} → cond b (Some m) None ≡ Some n → (b ≡ true) × (m ≡ n)
 told_is true m h = (refl, cc)
 told_is false m h = apart h
 
-told_bad : (b : Bool) (m : ℕ) → cond b (Is m) Bad ≡ Bad → b ≡ false
+told_bad : (b : Bool) (m : ℕ) → cond b (Some m) None ≡ None → b ≡ false
 told_bad true m h = apart (sym h)
 told_bad false m h = refl
 
@@ -59,11 +58,11 @@ module _ (n x : ℕ) (ds : List ℕ) where
   next = n * 10 + (x - 48)
 
   -- the octet is a digit, and the number within 64 bits
-  pub one_left : (m : ℕ) → with_digit n x ≡ Is m → left_of n (x ∷ ds) ≡ left_of m ds
+  pub one_left : (m : ℕ) → with_digit n x ≡ Some m → left_of n (x ∷ ds) ≡ left_of m ds
   unfolding with_digit left_of
   one_left m h = let t = told_is (digit x && ltb next (2 ^ 64)) next h in rw (and_l (digit x) (ltb next (2 ^ 64)) t.0, t.1)
 
-  pub bad_left : with_digit n x ≡ Bad → left_of n (x ∷ ds) ≡ Bad
+  pub bad_left : with_digit n x ≡ None → left_of n (x ∷ ds) ≡ None
   unfolding with_digit left_of
   bad_left h =
       let b = told_bad (digit x && ltb next (2 ^ 64)) next h in
@@ -75,11 +74,11 @@ module _ (n x : ℕ) (ds : List ℕ) where
 
 -- what the number of a field says of it
 module _ (ds : List ℕ) where
-  pub number_is : (n : ℕ) → number_of ds ≡ Is n → (is_decimal ds ≡ true) × (value_of ds ≡ n)
+  pub number_is : (n : ℕ) → number_of ds ≡ Some n → (is_decimal ds ≡ true) × (value_of ds ≡ n)
   unfolding number_of
   number_is n h = told_is (is_decimal ds) (value_of ds) h
 
-  pub number_bad : number_of ds ≡ Bad → is_decimal ds ≡ false
+  pub number_bad : number_of ds ≡ None → is_decimal ds ≡ false
   unfolding number_of
   number_bad h = told_bad (is_decimal ds) (value_of ds) h
 

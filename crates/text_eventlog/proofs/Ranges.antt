@@ -11,8 +11,7 @@ use lib.Seq.{sets}
 use Rattle.octets.proofs.Bools.{and_r}
 use Rattle.octets.proofs.Stores.{empty}
 use Rattle.frame_writer.specs.Plain.{between}
-use Rattle.frame_writer.specs.Writing.{plain_seven}
-use Rattle.frame_writer.specs.declared.Written.TheVariants.{Refused, Wrote}
+use Rattle.frame_writer.specs.Writing.{Refused, Wrote, plain_seven}
 use Rattle.frame_writer.proofs.Sevens.{by_cells, Seven, seven_is}
 use Rattle.text_eventlog.specs.Line.{last_position, in_range_up_to, in_range, fields, line_of}
 use Rattle.text_eventlog.specs.Logging.{logs, logged, Logging}

@@ -1,8 +1,6 @@
 -- A decimal field as it is read.
-use Rattle.std.specs.Prelude.{ℕ, ◌+◌, ◌*◌, ◌-◌, ◌^◌, List, [], ◌∷◌, Bool, true, false, cond, not, ◌&&◌, ltb, eqb}
+use Rattle.std.specs.Prelude.{ℕ, ◌+◌, ◌*◌, ◌-◌, ◌^◌, List, [], ◌∷◌, Bool, true, false, cond, not, ◌&&◌, ltb, eqb, Option, Some, None}
 use Rattle.frame_writer.specs.Plain.{between, every}
-use Rattle.text_eventlog.specs.declared.digits.Number.{Number}
-use Rattle.text_eventlog.specs.declared.digits.Number.TheVariants.{Bad, Is}
 
 -- the number that digits say after those that said n
 abbrev pub value_from : ℕ → List ℕ → ℕ
@@ -26,9 +24,9 @@ no_leading_zero (d ∷ e ∷ ds) = not (eqb d 48)
 unfoldable pub is_decimal : List ℕ → Bool
 is_decimal ds = no_leading_zero ds && (every digit ds && ltb (value_of ds) (2 ^ 64))
 
-unfoldable pub number_of : List ℕ → Number
-number_of ds = cond (is_decimal ds) (Is (value_of ds)) Bad
+unfoldable pub number_of : List ℕ → Option ℕ
+number_of ds = cond (is_decimal ds) (Some (value_of ds)) None
 
 -- a number with one more digit
-unfoldable pub with_digit : ℕ → ℕ → Number
-with_digit n x = cond (digit x && ltb (n * 10 + (x - 48)) (2 ^ 64)) (Is (n * 10 + (x - 48))) Bad
+unfoldable pub with_digit : ℕ → ℕ → Option ℕ
+with_digit n x = cond (digit x && ltb (n * 10 + (x - 48)) (2 ^ 64)) (Some (n * 10 + (x - 48))) None

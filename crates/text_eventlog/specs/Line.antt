@@ -1,13 +1,13 @@
 -- The line of the sent-event log: as it is written, and as it is read.
-use Rattle.std.specs.Prelude.{ℕ, ◌-◌, ◌^◌, List, [], ◌∷◌, ◌++◌, map, Bool, cond, ◌&&◌, ltb, eqb, length, get_or, take, drop}
+use Rattle.std.specs.Prelude.{ℕ, ◌-◌, ◌^◌, List, [], ◌∷◌, ◌++◌, map, Bool, cond, ◌&&◌, ltb, eqb, length, get_or, take, drop, Result, Ok, Err}
 use Rattle.frame_writer.specs.Plain.{between, every, most_events}
 use Rattle.frame_writer.specs.Writing.{plain_seven}
 use Rattle.text.specs.Marks.{tab, newline}
 use Rattle.text.specs.Decimal.{field}
 use Rattle.text_eventlog.specs.Digits.{value_of, is_decimal}
 use Rattle.text_eventlog.specs.declared.Line.{Line}
-use Rattle.text_eventlog.specs.declared.Reading.{Reading}
-use Rattle.text_eventlog.specs.declared.Reading.TheVariants.{Refused, Line as LineIs}
+use Rattle.octets.specs.declared.refusal.Refusal.{Refusal}
+use Rattle.octets.specs.Refusals.{number}
 
 -- "Log positions run 1 to 16.": as many as the events that a notification is written with
 abbrev pub last_position : ℕ
@@ -39,6 +39,15 @@ unfoldable pub line_of : ℕ → ℕ → List ℕ → List ℕ
 line_of number position event = fields (number ∷ position ∷ event)
 
 -- ---- read
+
+-- a refusal's number, or what the line says
+pub data Reading : Type 0 where
+  Refused : ℕ → Reading
+  LineIs : Line → Reading
+
+abbrev pub as_reading : Result Line Refusal → Reading
+as_reading (Ok line) = LineIs line
+as_reading (Err refusal) = Refused (number refusal)
 
 -- an octet ahead of the first field
 abbrev pub ahead : ℕ → List (List ℕ) → List (List ℕ)

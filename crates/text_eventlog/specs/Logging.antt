@@ -1,8 +1,7 @@
 -- What the log writer promises: its answer, and its whole output.
 use Rattle.std.specs.Prelude.{ℕ, ◌≡◌, List, cond, ltb, length}
 use Rattle.std.proofs.lemmas.List.Edits.{sets}
-use Rattle.frame_writer.specs.declared.Written.{Written}
-use Rattle.frame_writer.specs.declared.Written.TheVariants.{Refused, Wrote}
+use Rattle.frame_writer.specs.Writing.{Written, Refused, Wrote}
 use Rattle.text_eventlog.specs.Line.{in_range, line_of}
 
 -- "the log writer (10 for a value out of range): 10, then 9"

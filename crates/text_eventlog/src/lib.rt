@@ -13,7 +13,7 @@ pub use reader::read_line;
 pub use store::write_line;
 
 // What a line says: the notification's number, the event's position in it, its type and its six values.
-#[derive(Drop)]
+#[derive(Clone, Copy)]
 pub struct Line {
     pub number: u64,
     pub position: u64,
@@ -24,11 +24,4 @@ pub struct Line {
     pub errors: u64,
     pub error_total: u64,
     pub event_total: u64,
-}
-
-// A refusal's number, or what the line says.
-#[derive(Drop)]
-pub enum Reading {
-    Refused(u8),
-    Line(Line),
 }

@@ -12,14 +12,5 @@ const LAST_POSITION: u64 = MOST_EVENTS as u64;
 pub(crate) fn in_range(number: u64, position: u64, event: &[u64]) -> bool
     ensures { result ≡ in_range number position event.now }
 {
-    if 65536 <= number {
-        return false;
-    }
-    if position < 1 {
-        return false;
-    }
-    if LAST_POSITION < position {
-        return false;
-    }
-    frame_writer::plain_seven(event)
+    number < 65536 && (1..=LAST_POSITION).contains(&position) && frame_writer::plain_seven(event)
 }

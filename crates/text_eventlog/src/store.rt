@@ -4,9 +4,10 @@ ghost use Rattle.std.proofs.lemmas.List.Edits.{sets};
 ghost use Rattle.text.specs.Marks.{tab, newline};
 ghost use Rattle.text_eventlog.specs.Line.{fields};
 ghost use Rattle.text_eventlog.specs.Logging.{Logging};
+ghost use Rattle.frame_writer.specs.Writing.{as_written};
 
 use crate::range::in_range;
-use frame_writer::Written;
+use octets::Refusal;
 use text::{NEWLINE, TAB};
 
 // The octets of a line's fields.
@@ -15,10 +16,8 @@ fn fields_octets(values: &[u64]) -> usize
     ensures { result ≡ length (fields values.now) }
 {
     let mut octets: usize = 0;
-    let mut i: usize = 0;
-    while i < values.len() {
-        octets += text::digits(values[i]) + 1;
-        i += 1;
+    for &value in values {
+        octets += text::digits(value) + 1;
     }
     octets
 }
@@ -36,11 +35,9 @@ fn put_fields(out: &mut [u8], values: &[u64])
     ensures { out.new ≡ sets out.old 0 (fields values.now) }
 {
     let mut at: usize = 0;
-    let mut i: usize = 0;
-    while i < values.len() {
+    for i in 0..values.len() {
         let after = parting_octet(values.len() - i - 1);
         at = text::put_decimal(out, at, values[i], after);
-        i += 1;
     }
 }
 
@@ -55,17 +52,22 @@ fn line_values(number: u64, position: u64, event: &[u64]) -> [u64; 9]
 }
 
 // Writes the line of an event, lent as seven numbers, that was sent at a position of a notification with a number.
-pub fn write_line(number: u64, position: u64, event: &[u64], out: &mut [u8]) -> Written
-    ensures { Logging number position event.now out.old result out.new }
+pub fn write_line(
+    number: u64,
+    position: u64,
+    event: &[u64],
+    out: &mut [u8],
+) -> Result<usize, Refusal>
+    ensures { Logging number position event.now out.old (as_written result) out.new }
 {
     if !in_range(number, position, event) {
-        return Written::Refused(10);
+        return Err(Refusal::OutOfRange);
     }
     let values = line_values(number, position, event);
     let octets = fields_octets(&values);
     if out.len() < octets {
-        return Written::Refused(9);
+        return Err(Refusal::ShortOutput);
     }
     put_fields(out, &values);
-    Written::Wrote(octets)
+    Ok(octets)
 }

@@ -1,7 +1,7 @@
 -- The entry of a frame that is judged, from its octets.
 use Rattle.std.proofs.Common.{◌≡◌, ℕ, List}
 use Rattle.frame.specs.Frame.{decode, judgement_of, header_of}
-use Rattle.frame.specs.declared.Judgement.TheVariants.{Refused as JudgedRefused, Accepted as JudgedAccepted}
+use Rattle.frame.specs.Judgement.{Refused as JudgedRefused, Accepted as JudgedAccepted}
 use Rattle.frame.proofs.Judging.{judged_refused, judged_accepted}
 use Rattle.text_listing.specs.Rows.{entry_of}
 use Rattle.text_listing.specs.declared.row.Entry.TheVariants.{Accepted, Refused}

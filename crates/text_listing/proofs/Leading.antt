@@ -1,7 +1,6 @@
 -- How a call goes on over a piece: a character of a line, and an octet of two digits.
 use Rattle.std.proofs.Common.{◌≡◌, ℕ, ◌+◌, ◌-◌, ◌*◌, ◌<◌, ◌≤◌, false, List, length, get_or, set, sym, refl, ap, ◌∙◌, true≢false, append-nil, mod-eq_of_lt, arith, le-ltb, lt-ltb, ne_eqb, le-leb}
 use Rattle.text_listing.specs.declared.line.Line.{Line}
-use Rattle.text_listing.specs.declared.line.Scanned.{Scanned}
 use Rattle.text_listing.specs.declared.line.Line.TheVariants.{Whole, Half}
 use Rattle.text.specs.Marks.{newline}
 use Rattle.text_listing.specs.Lines.{is_digit}
@@ -12,8 +11,8 @@ use Rattle.text_listing.specs.Feeding.{Leads, Scans}
 use Rattle.text_listing.proofs.Digits.{digit}
 
 -- a part of a piece, and another after it
-pub scans_then : {piece f f' f'' : List ℕ} {line : Line} {at : ℕ} {r r' : Scanned}
-    → Scans piece line f at r f' → Scans piece r.line f' r.at r' f'' → Scans piece line f at r' f''
+pub scans_then : {piece f f' f'' : List ℕ} {line line' line'' : Line} {at at' at'' : ℕ}
+    → Scans piece line f at line' f' at' → Scans piece line' f' at' line'' f'' at'' → Scans piece line f at line'' f'' at''
 scans_then p q =
     record {
       onward = omega (arith, p.onward, q.onward);

@@ -2,18 +2,17 @@
 use Rattle.std.proofs.Common.{◌≡◌, ℕ, ◌+◌, ◌-◌, ◌<◌, ◌≤◌, List, [], ◌++◌, length, get_or, drop, sym, refl, ap, ◌∙◌, arith, length-append, drop_of_length-le, le-ltb, lt-ltb, eq-eqb}
 use lib.Seq.{sets, length-sets}
 use Rattle.text.specs.Put.{Stored}
-use Rattle.text.specs.Pieces.{Fed, fed_from, takes}
+use Rattle.text.specs.Pieces.{Fed, fed_from, takes, stage_after, gone_on, stage, Feeds}
 use Rattle.text.proofs.Stages.{next_cell}
 use Rattle.octets.proofs.Stores.{sets-append}
 use Rattle.text_listing.specs.declared.line.Line.{Line}
-use Rattle.text_listing.specs.declared.line.Scanned.{Scanned}
 use Rattle.text_listing.specs.declared.row.Entry.{Entry}
-use Rattle.text_listing.specs.declared.feeding.Place.{Place}
+use Rattle.text_listing.specs.declared.feeding.Progress.{Progress}
 use Rattle.text.specs.Marks.{newline}
 use Rattle.text_listing.specs.Rows.{row_of, row_room}
 use Rattle.text_listing.specs.Listing.{following}
 use Rattle.text_listing.specs.Taking.{fresh, decoded_of, decoded_entry}
-use Rattle.text_listing.specs.Feeding.{State, lister, fed, place_after, Feeds, reached, Scans}
+use Rattle.text_listing.specs.Feeding.{State, lister, reached, Scans}
 
 -- ---- what a call comes to at a newline, and at the end
 
@@ -33,15 +32,18 @@ module _ (room : ℕ) (o : Fed State) (piece : List ℕ) (at : ℕ) where
 
 -- ---- where a call stands
 
-module _ (f₀ piece out₀ : List ℕ) (number₀ : ℕ) (line₀ : Line) (taken₀ waiting₀ : ℕ) where
-  -- the place that the call begins at
-  abbrev from : Place
-  from = record { progress = record { number = number₀; line = line₀ }; taken = taken₀; waiting = waiting₀ }
+module _ (f₀ piece out₀ : List ℕ) (p₀ : Progress) (taken₀ waiting₀ : ℕ) where
+  -- where the call begins
+  abbrev from : Fed State
+  from = record { state = record { progress = p₀; frame = f₀ }; taken = taken₀; said = [] }
+
+  abbrev room₀ : ℕ
+  room₀ = length out₀ - waiting₀
 
   -- the rows said so far are stored after what waited, and from here the call comes to the same as from its start
   pub record Stands (f out : List ℕ) (number : ℕ) (line : Line) (taken waiting : ℕ) : Type 0 where
     pub said : List ℕ
-    pub same : fed from f₀ (length out₀) piece ≡ fed_from lister (length out₀ - waiting₀) (reached number said line f taken) (drop taken piece)
+    pub same : fed_from lister room₀ from (drop taken₀ piece) ≡ fed_from lister room₀ (reached number said line f taken) (drop taken piece)
     pub count : waiting ≡ waiting₀ + length said
     pub stored : out ≡ sets out₀ waiting₀ said
     pub room : waiting₀ ≤ length out₀ → waiting ≤ length out₀
@@ -49,16 +51,16 @@ module _ (f₀ piece out₀ : List ℕ) (number₀ : ℕ) (line₀ : Line) (take
     pub outputs : length out ≡ length out₀
 
   -- at the start
-  pub starts : Stands f₀ out₀ number₀ line₀ taken₀ waiting₀
+  pub starts : Stands f₀ out₀ p₀.number p₀.line taken₀ waiting₀
   starts = record { said = []; same = refl; count = omega arith; stored = refl; room = λ h. h; frames = refl; outputs = refl }
 
   -- after the characters up to a newline or the piece's end
-  pub scans : {f out f' : List ℕ} {number : ℕ} {line : Line} {taken waiting : ℕ} {r : Scanned}
-      → Stands f out number line taken waiting → Scans piece line f taken r f' → length f' ≡ length f → Stands f' out number r.line r.at waiting
+  pub scans : {f out f' : List ℕ} {number : ℕ} {line line' : Line} {taken taken' waiting : ℕ}
+      → Stands f out number line taken waiting → Scans piece line f taken line' f' taken' → length f' ≡ length f → Stands f' out number line' taken' waiting
   scans {number = number} s p kept =
       record {
         said = s.said;
-        same = s.same ∙ p.leads (length out₀ - waiting₀) number s.said;
+        same = s.same ∙ p.leads room₀ number s.said;
         count = s.count;
         stored = s.stored;
         room = s.room;
@@ -74,10 +76,10 @@ module _ (f₀ piece out₀ : List ℕ) (number₀ : ℕ) (line₀ : Line) (take
   ends_line {f} {out} {out'} {number} {line} {taken} {taken'} {waiting} {waiting'} {entry} s within e room is row next =
       let row_now = row_of number (decoded_entry f (decoded_of line)) in
       let now : Stored row_now out waiting waiting' out' = rw is row in
-      let enough : row_room ≤ length out₀ - waiting₀ - length s.said = omega (arith, s.count, s.outputs) in
+      let enough : row_room ≤ room₀ - length s.said = omega (arith, s.count, s.outputs) in
       record {
         said = s.said ++ row_now;
-        same = s.same ∙ line_ended (length out₀ - waiting₀) (reached number s.said line f taken) piece taken within e enough ∙ rw next;
+        same = s.same ∙ line_ended room₀ (reached number s.said line f taken) piece taken within e enough ∙ rw next;
         count = now.next ∙ rw (length-append s.said row_now) (omega (arith, s.count));
         stored = now.output ∙ rw (s.stored, sets-append out₀ waiting₀ s.said row_now, s.count);
         room = λ h. omega (arith, now.within, now.next, s.outputs);
@@ -87,13 +89,13 @@ module _ (f₀ piece out₀ : List ℕ) (number₀ : ℕ) (line₀ : Line) (take
 
   -- at the call's end
   pub feeds : {f out : List ℕ} {number : ℕ} {line : Line} {taken waiting : ℕ} (s : Stands f out number line taken waiting)
-      → fed_from lister (length out₀ - waiting₀) (reached number s.said line f taken) (drop taken piece) ≡ reached number s.said line f taken
-      → Feeds from f₀ piece out₀ (record { progress = record { number = number; line = line }; taken = taken; waiting = waiting }) f out
+      → fed_from lister room₀ (reached number s.said line f taken) (drop taken piece) ≡ reached number s.said line f taken
+      → Feeds lister piece (stage p₀ (record { taken = taken₀; waiting = waiting₀ }) f₀ out₀)
+      (stage (record { number = number; line = line }) (record { taken = taken; waiting = waiting }) f out)
+  unfolding gone_on
   feeds {f} {out} {number} {line} {taken} {waiting} s e =
-      let all = s.same ∙ e in
+      let a = stage p₀ (record { taken = taken₀; waiting = waiting₀ }) f₀ out₀ in
       record {
-        place = rw s.count (ap (place_after waiting₀) (sym all));
-        frame = ap (λ (o : Fed State). o.state.frame) (sym all);
-        output = s.stored ∙ ap (λ (o : Fed State). sets out₀ waiting₀ o.said) (sym all);
+        comes = rw (s.count, s.stored) (ap (stage_after a) (sym (s.same ∙ e)));
         fits = s.room;
       }

@@ -1,26 +1,23 @@
 -- How an input is fed: a character at a time, from where a call stands between two characters.
-use Rattle.std.specs.Prelude.{◌≡◌, ℕ, ◌+◌, ◌-◌, ◌<◌, ◌≤◌, cond, List, [], length, drop, ◌==◌, nat_lt, slice_index}
+use Rattle.std.specs.Prelude.{◌≡◌, ℕ, ◌<◌, ◌≤◌, cond, List, [], length, drop, ◌==◌, nat_lt, slice_index, Result, Ok, Err}
 use Rattle.std.proofs.lemmas.List.Edits.{sets}
-use Rattle.text.specs.Pieces.{Steps, Fed, fed_from}
+use Rattle.octets.specs.declared.refusal.Refusal.{Refusal}
+use Rattle.octets.specs.Refusals.{number}
+use Rattle.text.specs.Pieces.{Steps, Fed, fed_from, State as StateOf}
 use Rattle.text.specs.Marks.{newline}
 use Rattle.text_listing.specs.Rows.{row_of, row_room}
 use Rattle.text_listing.specs.Listing.{following}
 use Rattle.text_listing.specs.Taking.{fresh, line_with, frame_with, has_begun, decoded_of, decoded_entry}
 use Rattle.text_listing.specs.declared.line.Line.{Line}
-use Rattle.text_listing.specs.declared.line.Scanned.{Scanned}
 use Rattle.text_listing.specs.declared.feeding.Progress.{Progress}
-use Rattle.text_listing.specs.declared.feeding.Place.{Place}
-use Rattle.text_listing.specs.declared.feeding.Finished.{Finished}
-use Rattle.text_listing.specs.declared.feeding.Finished.TheVariants.{Written, Refused}
 
 -- before the first character
 abbrev pub begun : Progress
 begun = record { number = 1; line = fresh }
 
 -- where a listing stands: the progress, and the working frame
-pub record State : Type 0 where
-  pub progress : Progress
-  pub frame : List ℕ
+abbrev pub State : Type 0
+State = StateOf Progress
 
 -- the row of the present line
 abbrev pub present_row : State → List ℕ
@@ -53,25 +50,16 @@ lister = record {
   last = last_row;
 }
 
--- a call from a place of a piece on, with the room that an output of so many octets has from what waits there on
-abbrev pub fed : Place → List ℕ → ℕ → List ℕ → Fed State
-fed p f octets piece =
-    fed_from lister (octets - p.waiting)
-    (record { state = record { progress = p.progress; frame = f }; taken = p.taken; said = [] })
-    (drop p.taken piece)
-
--- the place that it comes to: what was said waits after what waited
-abbrev pub place_after : ℕ → Fed State → Place
-place_after waiting o = record { progress = o.state.progress; taken = o.taken; waiting = waiting + length o.said }
-
--- what `feed` promises: the place and the frame, what is said stored after what waits, and that it fits into the output
-pub record Feeds (p : Place) (f piece out : List ℕ) (r : Place) (f' out' : List ℕ) : Type 0 where
-  pub place : r ≡ place_after p.waiting (fed p f (length out) piece)
-  pub frame : f' ≡ (fed p f (length out) piece).state.frame
-  pub output : out' ≡ sets out p.waiting (fed p f (length out) piece).said
-  pub fits : p.waiting ≤ length out → r.waiting ≤ length out
-
 -- ---- the input's end
+
+-- so many octets are written, or a refusal's number
+pub data Finished : Type 0 where
+  Written : ℕ → Finished
+  Refused : ℕ → Finished
+
+abbrev pub as_finished : Result ℕ Refusal → Finished
+as_finished (Ok octets) = Written octets
+as_finished (Err refusal) = Refused (number refusal)
 
 -- whether there is a last line, and then whether an output of so many octets has room for any row
 abbrev pub last_of : ℕ → State → Finished
@@ -85,10 +73,9 @@ abbrev pub octets_written : Finished → ℕ
 octets_written (Written n) = n
 octets_written (Refused answer) = 0
 
--- what `finish` promises: the result, the row at the output's front, and that it fits; the working frame stays
-pub record Finishes (p : Progress) (f out : List ℕ) (r : Finished) (f' out' : List ℕ) : Type 0 where
+-- what `finish` promises: the result, the row at the output's front, and that it fits
+pub record Finishes (p : Progress) (f out : List ℕ) (r : Finished) (out' : List ℕ) : Type 0 where
   pub result : r ≡ last_of (length out) (record { progress = p; frame = f })
-  pub frame : f' ≡ f
   pub output : out' ≡ sets out 0 (last_said (length out) (record { progress = p; frame = f }))
   pub fits : octets_written r ≤ length out
 
@@ -109,10 +96,10 @@ Leads piece line f at line' f' at' =
     → fed_from lister room (reached number said line f at) (drop at piece) ≡ fed_from lister room (reached number said line' f' at') (drop at' piece)
 
 -- what is promised of a part that is taken
-pub record Scans (piece : List ℕ) (line : Line) (f : List ℕ) (at : ℕ) (r : Scanned) (f' : List ℕ) : Type 0 where
-  pub onward : at ≤ r.at
-  pub within : r.at ≤ length piece
-  pub leads : Leads piece line f at r.line f' r.at
+pub record Scans (piece : List ℕ) (line : Line) (f : List ℕ) (at : ℕ) (line' : Line) (f' : List ℕ) (at' : ℕ) : Type 0 where
+  pub onward : at ≤ at'
+  pub within : at' ≤ length piece
+  pub leads : Leads piece line f at line' f' at'
 
 -- at the piece's end, or before a newline
 abbrev pub Stops : List ℕ → ℕ → Type 0

@@ -1,13 +1,11 @@
 -- How a line is taken: a character at a time, its octets into a working frame.
-use Rattle.std.specs.Prelude.{◌≡◌, ℕ, ◌+◌, ◌*◌, ◌%◌, ◌<◌, min, Bool, true, cond, List, length, take, nat_le, nat_lt, slice_index, slice_set}
+use Rattle.std.specs.Prelude.{◌≡◌, ℕ, ◌+◌, ◌*◌, ◌%◌, ◌<◌, min, Bool, true, cond, List, length, take, nat_le, nat_lt, slice_index, slice_set, Option, Some, None}
 use Rattle.octets.specs.Layout.{longest_frame}
 use Rattle.frame.specs.Frame.{decode}
 use Rattle.text_listing.specs.Rows.{entry_of}
 use Rattle.text_listing.specs.Lines.{is_digit, digit_of}
 use Rattle.text_listing.specs.declared.line.Line.{Line}
 use Rattle.text_listing.specs.declared.line.Line.TheVariants.{Whole, Half, Foreign}
-use Rattle.text_listing.specs.declared.line.Decoded.{Decoded}
-use Rattle.text_listing.specs.declared.line.Decoded.TheVariants.{Length, NotHexadecimal}
 use Rattle.text_listing.specs.declared.row.Entry.{Entry}
 use Rattle.text_listing.specs.declared.row.Entry.TheVariants.{Refused}
 
@@ -58,11 +56,11 @@ has_begun (Whole n) = nat_lt 0 n
 has_begun (Half n high) = true
 has_begun Foreign = true
 
--- what a line comes to at its end
-abbrev pub decoded_of : Line → Decoded
-decoded_of (Whole n) = Length n
-decoded_of (Half n high) = NotHexadecimal
-decoded_of Foreign = NotHexadecimal
+-- what a line comes to at its end: so many octets, or no hexadecimal
+abbrev pub decoded_of : Line → Option ℕ
+decoded_of (Whole n) = Some n
+decoded_of (Half n high) = None
+decoded_of Foreign = None
 
 -- the refusal of a line whose octets are more than the working frame holds: 9, it is lent too short; or 1, they are more
 -- than a frame has
@@ -74,6 +72,6 @@ abbrev pub length_entry : List ℕ → ℕ → Entry
 length_entry f n = cond (nat_le n (held f)) (entry_of (decode (take n f))) (Refused (too_many n))
 
 -- the entry of what a line comes to
-abbrev pub decoded_entry : List ℕ → Decoded → Entry
-decoded_entry f (Length n) = length_entry f n
-decoded_entry f NotHexadecimal = Refused 14
+abbrev pub decoded_entry : List ℕ → Option ℕ → Entry
+decoded_entry f (Some n) = length_entry f n
+decoded_entry f None = Refused 14

@@ -1,17 +1,29 @@
 // The rows of a listing, and what a frame's row says of it.
 ghost use Rattle.std.specs.Prelude.{◌≡◌, ◌+◌, ◌≤◌, length, nat_le};
+ghost use Rattle.octets.specs.Refusals.{number};
 ghost use Rattle.frame.specs.Frame.{decode};
 ghost use Rattle.text.specs.Put.{Put, Stored};
 ghost use Rattle.text_listing.specs.Rows.{header, columns, row_of, entry_of};
 
-use frame::Judgement;
+use octets::Refusal;
 use text::{NEWLINE, TAB};
 
-// What a row says: the code and the flags of an accepted frame and how many TLVs were skipped, or the number of a refusal.
-#[derive(Clone, Copy, Drop)]
+// What a row says: the code and the flags of an accepted frame and how many TLVs were skipped, or the number of a refusal. It
+// is a number and no `Refusal`, since `put_row` takes any.
+#[derive(Clone, Copy)]
 pub enum Entry {
     Accepted(u8, u16, usize),
     Refused(u8),
+}
+
+impl From<Refusal> for Entry {
+    ghost use Rattle.text_listing.specs.declared.row.Entry.{Entry};
+
+    ghost from_gives = { λ refusal entry. entry ≡ Entry.Refused (number refusal) };
+
+    fn from(refusal: Refusal) -> Entry {
+        Entry::Refused(refusal.number())
+    }
 }
 
 // Room for any row: a number of 20 digits, a code of 3, flags of 5, the answer 0, a count of 20, four tabs and a newline.
@@ -105,10 +117,10 @@ pub fn frame_entry(frame: &[u8]) -> Entry
     ensures { result ≡ entry_of (decode frame.now) }
 {
     match frame::judgement_of(frame) {
-        Judgement::Refused(answer) => Entry::Refused(answer),
-        Judgement::Accepted(_, skipped) => {
-            let header = frame::header_of(frame, skipped);
+        Ok(accepted) => {
+            let header = frame::header_of(frame, accepted.skipped);
             Entry::Accepted(header.code, header.flags, header.skipped as usize)
         }
+        Err(refusal) => Entry::from(refusal),
     }
 }

@@ -15,12 +15,10 @@ use Rattle.link_limit.specs.Limit.{closes, turned_meter}
 use Rattle.link_limit.specs.declared.Meter.{Meter}
 use Rattle.link_peer.specs.declared.Settings.{Settings}
 use Rattle.link_end.specs.declared.End.{End}
-use Rattle.link_end.specs.declared.MaybeEnd.{MaybeEnd}
-use Rattle.link_end.specs.declared.MaybeEnd.TheVariants.{Is}
-use Rattle.link.specs.declared.Outcome.{Outcome}
-use Rattle.link_end.specs.Parts.{fresh_end, fresh_of}
+use Rattle.link.specs.Outcomes.{Outcome}
+use Rattle.link_end.specs.Parts.{Is, MaybeEnd, fresh_end, fresh_of}
 use Rattle.link_end.specs.Ranges.{ranged}
-use Rattle.link_windows.specs.declared.MaybeWatch.TheVariants.{Is as WatchIs}
+use Rattle.link_windows.specs.Ranges.{Is as WatchIs}
 use Rattle.link_windows.specs.declared.Watch.{Watch}
 use Rattle.link_windows.specs.Watches.{phase_of, taken_count}
 use Rattle.link_windows.specs.Ranges.{fresh_watch, proper}

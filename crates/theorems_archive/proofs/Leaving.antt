@@ -11,14 +11,12 @@ use lib.ListN.{length, drop}
 use lib.Seq.{sets}
 use Rattle.octets.proofs.Bools.{whether, by_cond, never}
 use Rattle.link_end.specs.declared.End.{End}
-use Rattle.link_end.specs.declared.MaybeEnd.{MaybeEnd}
-use Rattle.link_end.specs.declared.MaybeEnd.TheVariants.{Refused, Is}
-use Rattle.link.specs.declared.Outcome.{Outcome}
-use Rattle.link_windows.specs.declared.Counted.{Counted}
+use Rattle.link_end.specs.Parts.{Is, Refused, MaybeEnd}
+use Rattle.link.specs.Outcomes.{Outcome}
+use Rattle.link_windows.specs.Watches.{Counted}
 use Rattle.link_windows.specs.declared.Watch.{Watch}
 use Rattle.link_windows.specs.Watches.{taken_count}
-use Rattle.link_counting.specs.declared.CountedTick.{CountedTick}
-use Rattle.link_counting.specs.Counting.{uncounted, counted_tick}
+use Rattle.link_counting.specs.Counting.{CountedTick, uncounted, counted_tick}
 use Rattle.oam_packing.specs.Octets.{end_length, unpacked, watch_in}
 use Rattle.theorems_packing.proofs.Packing.{stored_behind}
 use Rattle.oam_outcomes.specs.Stepped.{stepped_number, stepped_state}

@@ -10,8 +10,7 @@ use lib.ListN.{length}
 use Rattle.frame.specs.Frame.{Message}
 use Rattle.frame_writer.specs.Encode.{encode}
 use Rattle.frame_writer.specs.Plain.{plain}
-use Rattle.frame_writer.specs.Writing.{writes}
-use Rattle.frame_writer.specs.declared.Written.TheVariants.{Refused, Wrote}
+use Rattle.frame_writer.specs.Writing.{Refused, Wrote, writes}
 use Rattle.theorems_frame.proofs.Sizes.{encode-length}
 use Rattle.text_eventlog.specs.Line.{in_range, line_of}
 use Rattle.text_eventlog.specs.Logging.{logs}

@@ -1,4 +1,5 @@
 -- What arises at a tick may be notified: handed on as `oam_tick` stores it, it is never refused with 10.
+use Rattle.std.specs.Prelude.{Option, None, Some}
 use Prim.Native.Nat.{ℕ, ◌+◌, ◌*◌, ◌^◌, ◌<◌, ◌≤◌}
 use mathlib.Core.Path.{◌≡◌, refl, sym, ap, subst, ◌∙◌}
 use mathlib.Core.List.{List, ◌++◌}
@@ -8,18 +9,17 @@ use borrow.Author.Tests.{lt-ltb}
 use lib.Dec.{ltb, eqb}
 use lib.ListN.{length, take, drop}
 use lib.Seq.{sets, sets-eq, take_at}
+use Rattle.frame_tlvs.specs.declared.Event.{Event}
 use Rattle.octets.proofs.Bools.{by_cond, not_both}
 use Rattle.frame_writer.specs.Plain.{plain_events, sized}
 use Rattle.frame_writer.specs.Writing.{events_of}
 use Rattle.link_end.specs.declared.End.{End}
-use Rattle.link_end.specs.declared.MaybeEnd.TheVariants.{Is}
+use Rattle.link_end.specs.Parts.{Is}
 use Rattle.link_end.specs.Ranges.{tests, ranged}
 use Rattle.link_end.specs.Granting.{answer_to, decided}
 use Rattle.link_end.proofs.Ranging.{all_at}
 use Rattle.link.specs.Requests.{octets_asked, notifying, concluded_request, request_of}
-use Rattle.link_windows.specs.declared.Arisen.{Arisen}
-use Rattle.link_windows.specs.declared.Arisen.TheVariants.{Nothing, Is as Arose}
-use Rattle.link_windows.specs.declared.Counted.{Counted}
+use Rattle.link_windows.specs.Watches.{Counted}
 use Rattle.link_windows.specs.declared.Watch.{Watch}
 use Rattle.link_windows.specs.Watches.{taken_count}
 use Rattle.link_windows.specs.Ranges.{proper}
@@ -35,24 +35,24 @@ use Rattle.theorems_archive.proofs.Leaving.{ticked_counted}
 
 -- ---- the events that the numbers say are those that arose
 
-read_again : (f s : Arisen) → events_of (arisen_numbers f ++ arisen_numbers s) ≡ events_in f s
+read_again : (f s : Option Event) → events_of (arisen_numbers f ++ arisen_numbers s) ≡ events_in f s
 unfolding events_of
-read_again Nothing Nothing = refl
-read_again Nothing (Arose e) = refl
-read_again (Arose e) Nothing = refl
-read_again (Arose e) (Arose g) = refl
+read_again None None = refl
+read_again None (Some e) = refl
+read_again (Some e) None = refl
+read_again (Some e) (Some g) = refl
 
-as_many : (f s : Arisen) → arisen_count f + arisen_count s ≡ length (events_in f s)
-as_many Nothing Nothing = refl
-as_many Nothing (Arose e) = refl
-as_many (Arose e) Nothing = refl
-as_many (Arose e) (Arose g) = refl
+as_many : (f s : Option Event) → arisen_count f + arisen_count s ≡ length (events_in f s)
+as_many None None = refl
+as_many None (Some e) = refl
+as_many (Some e) None = refl
+as_many (Some e) (Some g) = refl
 
-seven_each : (f s : Arisen) → length (arisen_numbers f ++ arisen_numbers s) ≡ 7 * (arisen_count f + arisen_count s)
-seven_each Nothing Nothing = refl
-seven_each Nothing (Arose e) = refl
-seven_each (Arose e) Nothing = refl
-seven_each (Arose e) (Arose g) = refl
+seven_each : (f s : Option Event) → length (arisen_numbers f ++ arisen_numbers s) ≡ 7 * (arisen_count f + arisen_count s)
+seven_each None None = refl
+seven_each None (Some e) = refl
+seven_each (Some e) None = refl
+seven_each (Some e) (Some g) = refl
 
 -- ---- the answer
 

@@ -1,5 +1,6 @@
 -- What a machine entry gives back as one number has each part of the outcome whole: the answer, the length, the State octet,
 -- what is shown, how many events arose. This is so of every call of an entry on octets that hold an end.
+use Rattle.std.specs.Prelude.{Option, None, Some}
 use Prim.Native.Nat.{ℕ, ◌+◌, ◌*◌, ◌/◌, ◌%◌, ◌^◌, ◌<◌, ◌≤◌}
 use mathlib.Core.Path.{◌≡◌, ap, ◌∙◌}
 use mathlib.Core.List.{List}
@@ -9,6 +10,7 @@ use native.Mathlib.Nat.{add-zero, mod-eq_of_lt}
 use native.Mathlib.Omega.{arith}
 use lib.Dec.{ltb, leb}
 use lib.ListN.{length}
+use Rattle.frame_tlvs.specs.declared.Event.{Event}
 use Rattle.octets.proofs.Bools.{by_cond}
 use Rattle.theorems_frame.proofs.Sizes.{encode-length}
 use Rattle.link_loopback.specs.Roles.{octet_of}
@@ -17,18 +19,15 @@ use Rattle.link_loopback.specs.declared.Role.TheVariants.{Idle, Asking, Holding,
 use Rattle.link_end.specs.declared.End.{End}
 use Rattle.link_end.specs.declared.News.{News}
 use Rattle.link_end.specs.declared.News.TheVariants.{Nothing, Frame, Events}
-use Rattle.link_windows.specs.declared.Arisen.{Arisen}
-use Rattle.link_windows.specs.declared.Arisen.TheVariants.{Nothing as None, Is as Arose}
-use Rattle.link_windows.specs.declared.Counted.{Counted}
+use Rattle.link_windows.specs.Watches.{Counted}
 use Rattle.link_end.specs.Ranges.{ranged}
 use Rattle.link_end.specs.Sending.{sends, sent}
 use Rattle.link_end.specs.Granting.{granted}
-use Rattle.link.specs.declared.Outcome.{Outcome}
-use Rattle.link.specs.Outcomes.{outcome, concluded}
+use Rattle.link.specs.Outcomes.{Outcome, outcome, concluded}
 use Rattle.oam_outcomes.specs.Stepped.{kind_of, stepped_number}
 use Rattle.oam_packing.specs.Octets.{unpacked, watch_in}
 use Rattle.theorems_packing.proofs.Packing.{unpacked-ranged}
-use Rattle.link_end.specs.declared.MaybeEnd.TheVariants.{Is}
+use Rattle.link_end.specs.Parts.{Is}
 use Rattle.theorems_reach.specs.Machine.{tick, report, receive, request, Call, asked_of, outcome_by, outcome_of, meant}
 use Rattle.theorems_reach.specs.Premises.{OfOctets}
 use Rattle.theorems_reach.proofs.Coming.{dues_after, Comes, refuses, concludes, grants, comes}
@@ -124,9 +123,9 @@ entry_small (asks q) out e o r = call_small (record { input = request q; out = o
 counted_few : (c : Counted) → counted_events c ≤ 2
 counted_few c = omega (arith, arisen_most c.frames, arisen_most c.seconds)
   where
-    arisen_most : (a : Arisen) → arisen_count a ≤ 1
+    arisen_most : (a : Option Event) → arisen_count a ≤ 1
     arisen_most None = omega arith
-    arisen_most (Arose e) = omega arith
+    arisen_most (Some e) = omega arith
 
 -- a number with no events beside it
 none_beside : (o : Outcome) → Small o → InBits o 0 (stepped_number o)

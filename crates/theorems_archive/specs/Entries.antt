@@ -4,12 +4,11 @@ use Rattle.std.specs.Prelude.{ℕ, ◌/◌, ◌%◌, ◌^◌, ◌≤◌, ◌≡�
 use Rattle.link_peer.specs.declared.Settings.{Settings}
 use Rattle.link_end.specs.declared.End.{End}
 use Rattle.link_end.specs.declared.News.TheVariants.{Nothing}
-use Rattle.link.specs.declared.Outcome.{Outcome}
-use Rattle.link.specs.Outcomes.{outcome}
-use Rattle.link_windows.specs.declared.MaybeWatch.{MaybeWatch}
+use Rattle.link.specs.Outcomes.{Outcome, outcome}
+use Rattle.link_windows.specs.Ranges.{MaybeWatch}
 use Rattle.link_windows.specs.declared.Watch.{Watch}
 use Rattle.link_windows.specs.Ranges.{fresh_watch}
-use Rattle.link_counting.specs.declared.CountedTick.{CountedTick}
+use Rattle.link_counting.specs.Counting.{CountedTick}
 use Rattle.theorems_windows.specs.Runs.{watch_by, WindowSettings, fresh_by}
 use Rattle.oam_outcomes.specs.Stepped.{kind_of}
 use Rattle.oam_packing.specs.Octets.{unpacked, watch_in}

@@ -21,7 +21,7 @@ use Rattle.theorems_listing.proofs.Pieces.{said_whole, some_taken, taken_whole_l
 use Rattle.theorems_listing.proofs.Texts.{too_long}
 use Rattle.text_captures.specs.declared.progress.Awaited.TheVariants.{RecordHeader}
 use Rattle.text_captures.specs.declared.progress.Progress.{Progress}
-use Rattle.text_captures.specs.declared.progress.Said.TheVariants.{NoRow, Row}
+use Rattle.std.specs.Prelude.{Some, None}
 use Rattle.text_captures.specs.Captures.{is_little, is_capture, stored_of, original_of, record_size, is_whole, record_entry, entries_up_to, entries, numbered, capture_listing}
 use Rattle.text_captures.specs.Feeding.{begun, is_last, awaiting_frame, awaiting_nothing, after_file_header, empty_entry, after_frame, after_record_header, row_said, last_row, State, captures}
 use Rattle.theorems_captures.specs.Runs.{run}
@@ -77,7 +77,7 @@ module _ (n : ℕ) (little : Bool) (s : List ℕ) where
 
     -- its numbers are the file's
     after_header : after_record_header (before n little) f'
-        ≡ cond (eqb stored 0) (record { progress = before (following n) little; said = Row (empty_entry original) }) (record { progress = awaiting_frame (before n little) stored original; said = NoRow })
+        ≡ cond (eqb stored 0) (record { progress = before (following n) little; said = Some (empty_entry original) }) (record { progress = awaiting_frame (before n little) stored original; said = None })
     unfolding after_record_header
     after_header =
         let same = same_stored f s 16 (omega arith) enough in
@@ -201,11 +201,15 @@ module _ (f input : List ℕ) (long : 1514 ≤ length f) where
 
 -- ---- the theorems
 
+-- all that there is to say of a file, after the header
+pub all_captured : (frame input : List ℕ) → 1514 ≤ length frame → header ++ to_say captures (record { progress = begun; frame = frame }) input ≡ capture_listing input
+unfolding capture_listing
+all_captured frame input long = ap (λ (said : List ℕ). header ++ said) (all_said frame input long)
+
 pub captured : (frame input : List ℕ) (calls : List Call) → 1514 ≤ length frame → (run frame input calls).left ≡ []
     → header ++ ((run frame input calls).said ++ last_row (run frame input calls).state.progress) ≡ capture_listing input
-unfolding capture_listing
 captured frame input calls long whole =
-    ap (λ (said : List ℕ). header ++ said) (said_whole captures (record { progress = begun; frame = frame }) input calls whole ∙ all_said frame input long)
+    ap (λ (said : List ℕ). header ++ said) (said_whole captures (record { progress = begun; frame = frame }) input calls whole) ∙ all_captured frame input long
 
 -- no octet wants more room than a row
 row_wanted : Within captures row_room

@@ -5,15 +5,12 @@ use mathlib.Core.List.{List, ◌∷◌, ◌++◌}
 use native.Mathlib.Omega.{arith}
 use borrow.Author.Tests.{le-leb}
 use lib.ListN.{length, drop}
-use Rattle.frame_tlvs.specs.Tlvs.{row, event_length, mark_at}
+use Rattle.frame_tlvs.specs.Tlvs.{row, event_length, mark_at, Mark, End, Broken, Unknown, Known}
 use Rattle.frame_tlvs.specs.Walk.{Next, has}
 use Rattle.octets.specs.Octets.{fields_at, Octets, octs, fit}
-use Rattle.frame_tlvs.specs.Events.{event_of, event_at, step_of, event_step, next_of}
-use Rattle.frame_tlvs.specs.declared.Mark.{Mark}
-use Rattle.frame_tlvs.specs.declared.Mark.TheVariants.{End, Broken, Unknown, Known}
+use Rattle.frame_tlvs.specs.Events.{event_of, event_at, step_of, event_step, next_of, Has}
 use Rattle.frame_tlvs.specs.declared.Kind.TheVariants.{Events as EventKind}
 use Rattle.frame_tlvs.specs.declared.Event.{Event}
-use Rattle.frame_tlvs.specs.declared.EventStep.TheVariants.{Has}
 use Rattle.frame_tlvs.proofs.Rows.{four}
 use Rattle.frame_tlvs.proofs.Marks.{Marked, mark_within, event_tabled}
 use Rattle.frame_writer.specs.Encode.{event_values, event_octets}

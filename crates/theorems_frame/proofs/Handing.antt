@@ -12,7 +12,8 @@ use Rattle.octets.specs.Octets.{Octets}
 use Rattle.octets.specs.Layout.{body_start}
 use Rattle.frame_tlvs.specs.Walk.{met}
 use Rattle.frame_tlvs.specs.declared.Event.{Event}
-use Rattle.frame_body.specs.Information.{InformationPart, local, remote}
+use Rattle.frame_body.specs.declared.InformationPart.{InformationPart}
+use Rattle.frame_body.specs.declared.InformationPart.TheVariants.{Local as local, Remote as remote}
 use Rattle.frame_body.specs.Variables.{Container, container_walk}
 use Rattle.frame.specs.Frame.{Body, information, notification, request, response, loopback, organization, Message, accepted, decode, judgement_of, header_in, number_in, fixed_number}
 use Rattle.frame.specs.Steps.{Stepped}
@@ -21,9 +22,8 @@ use Rattle.frame.proofs.Judging.{header_agrees, number_agrees}
 use Rattle.frame_variables.specs.Answers.{containers_length}
 use Rattle.frame_writer.specs.Encode.{container_octets, joined, encode}
 use Rattle.frame_writer.specs.Plain.{plain_parts, plain_body, plain}
-use Rattle.frame_writer.specs.Writing.{writes, written, message_of, parts_of, events_from, events_of}
+use Rattle.frame_writer.specs.Writing.{Refused, Wrote, writes, written, message_of, parts_of, events_from, events_of}
 use Rattle.frame_writer.specs.Responses.{containers_of, all_containers}
-use Rattle.frame_writer.specs.declared.Written.TheVariants.{Refused, Wrote}
 use Rattle.octets.proofs.Bools.{never, and_l}
 use Rattle.octets.proofs.Numbers.{octets_from}
 use Rattle.frame_writer.proofs.Lengths.{length_containers, plain_body_lem}

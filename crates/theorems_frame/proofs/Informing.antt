@@ -7,16 +7,14 @@ use native.Mathlib.Omega.{arith}
 use borrow.Author.Tests.{eqb-true, eqb-false}
 use lib.ListN.{length, drop}
 use lib.Dec.{eqb}
-use Rattle.frame_tlvs.specs.Tlvs.{information_length, mark_at}
+use Rattle.frame_tlvs.specs.Tlvs.{information_length, mark_at, Mark, End, Broken, Unknown, Known}
 use Rattle.octets.specs.Octets.{fields_at, Octets, octs, fit}
 use Rattle.frame_tlvs.specs.Walk.{Next, has, parts}
-use Rattle.frame_body.specs.Information.{information_of, information_at, step_of, information_step, InformationPart, local, remote, next_of, information_parts, information_widths, information_values}
-use Rattle.frame_tlvs.specs.declared.Mark.{Mark}
-use Rattle.frame_tlvs.specs.declared.Mark.TheVariants.{End, Broken, Unknown, Known}
+use Rattle.frame_body.specs.Information.{information_of, information_at, step_of, information_step, next_of, information_parts, information_widths, information_values, InformationStep, Local, Remote}
+use Rattle.frame_body.specs.declared.InformationPart.{InformationPart}
+use Rattle.frame_body.specs.declared.InformationPart.TheVariants.{Local as local, Remote as remote}
 use Rattle.frame_tlvs.specs.declared.Kind.TheVariants.{Information as InformationKind}
 use Rattle.frame_body.specs.declared.Information.{Information}
-use Rattle.frame_body.specs.declared.InformationStep.{InformationStep}
-use Rattle.frame_body.specs.declared.InformationStep.TheVariants.{Local, Remote}
 use Rattle.octets.proofs.Bools.{by_cond, never, and_l, and_r, one_of}
 use Rattle.frame_tlvs.proofs.Marks.{Marked, mark_within, information_16}
 use Rattle.frame_writer.specs.Encode.{information_octets, part_octets}

@@ -10,11 +10,7 @@ use lib.ListN.{length, get_or, drop, length-append, length-drop}
 use lib.Seq.{get_or-drop}
 use lib.Dec.{ltb, leb, eqb}
 use Rattle.octets.specs.Octets.{Octets, num, total, fields_at, octs, fit}
-use Rattle.frame_tlvs.specs.Tlvs.{tlv_at, known, marked, mark_at}
-use Rattle.frame_tlvs.specs.declared.tlvs.Tlv.{Tlv}
-use Rattle.frame_tlvs.specs.declared.tlvs.Tlv.TheVariants.{End as TlvEnd, Broken as TlvBroken, At}
-use Rattle.frame_tlvs.specs.declared.Mark.{Mark}
-use Rattle.frame_tlvs.specs.declared.Mark.TheVariants.{End, Broken, Unknown, Known}
+use Rattle.frame_tlvs.specs.Tlvs.{tlv_at, known, marked, mark_at, Tlv, TlvEnd, TlvBroken, At, Mark, End, Broken, Unknown, Known}
 use Rattle.frame_tlvs.specs.declared.Kind.{Kind}
 use Rattle.octets.proofs.Bools.{by_cond}
 use Rattle.frame_tlvs.proofs.Marks.{Marked, mark_within}

@@ -11,26 +11,18 @@ use lib.Dec.{eqb}
 use Rattle.octets.specs.Layout.{longest_frame, body_start, events_start}
 use Rattle.octets.proofs.Bools.{by_cond}
 use Rattle.frame_tlvs.specs.Walk.{Next, stop, broken, skip, has, Walk, ends, breaks, over, part, on_next, walk, whole, skipped_in, beside}
-use Rattle.frame_tlvs.specs.Tlvs.{tlv_at, event_length, known, marked, mark_at}
-use Rattle.frame_tlvs.specs.Events.{step_of, event_step, next_of, event_walk}
+use Rattle.frame_tlvs.specs.Tlvs.{tlv_at, event_length, known, marked, mark_at, Tlv, TlvEnd, TlvBroken, At, Mark, End as MarkEnd, Broken as MarkBroken, Unknown, Known}
+use Rattle.frame_tlvs.specs.Events.{step_of, event_step, next_of, event_walk, EventStep, End as EventsEnd, Broken as EventBroken, Skip as EventSkip, Has}
 use Rattle.frame_tlvs.specs.Counting.{start, more, behind, skipping, counted_step, event_next}
 use Rattle.frame_tlvs.specs.declared.Cursor.{Cursor}
-use Rattle.frame_tlvs.specs.declared.tlvs.Tlv.{Tlv}
-use Rattle.frame_tlvs.specs.declared.tlvs.Tlv.TheVariants.{End as TlvEnd, Broken as TlvBroken, At}
-use Rattle.frame_tlvs.specs.declared.Mark.{Mark}
-use Rattle.frame_tlvs.specs.declared.Mark.TheVariants.{End as MarkEnd, Broken as MarkBroken, Unknown, Known}
 use Rattle.frame_tlvs.specs.declared.Kind.{Kind}
 use Rattle.frame_tlvs.specs.declared.Kind.TheVariants.{Information as InformationKind, Events}
-use Rattle.frame_tlvs.specs.declared.EventStep.{EventStep}
-use Rattle.frame_tlvs.specs.declared.EventStep.TheVariants.{End as EventsEnd, Broken as EventBroken, Skip as EventSkip, Has}
 use Rattle.frame_tlvs.proofs.Walks.{Ahead, Leads, enough}
 use Rattle.frame_tlvs.proofs.Marks.{Within, tlv_within}
-use Rattle.frame_body.specs.Information.{step_of as information_step_of, information_step, next_of as information_next_of, information_walk}
+use Rattle.frame_body.specs.Information.{step_of as information_step_of, information_step, next_of as information_next_of, information_walk, InformationStep, End, Broken, Skip, Local, Remote}
 use Rattle.frame_body.specs.Counting.{counted_step as information_counted, information_next}
-use Rattle.frame_body.specs.declared.InformationStep.{InformationStep}
-use Rattle.frame_body.specs.declared.InformationStep.TheVariants.{End, Broken, Skip, Local, Remote}
 use Rattle.frame_body.proofs.Judging.{information_leads}
-use Rattle.frame_body.proofs.Places.{event_leads}
+use Rattle.frame_tlvs.proofs.Items.{event_leads}
 use Rattle.frame.specs.Frame.{Body, information, notification, request, response, loopback, organization, Message, accepted, header_answer, body_answer, decode}
 use Rattle.frame.specs.Steps.{skipped_by}
 use Rattle.frame.proofs.Stepping.{decode_counts}

@@ -1,25 +1,23 @@
 -- What a caller who reads a frame hands to the writer of its code, and what comes of it.
-use Rattle.std.specs.Prelude.{ℕ, ◌≤◌, ◌≡◌, List, [], ◌∷◌, ◌++◌, Bool, true, cond, eqb, length, take, drop}
+use Rattle.frame_body.specs.declared.Information.{Information}
+use Rattle.std.specs.Prelude.{ℕ, ◌≤◌, ◌≡◌, List, [], ◌∷◌, ◌++◌, Bool, true, cond, eqb, length, take, drop, Option, None, Some}
 use Rattle.std.proofs.lemmas.List.Edits.{sets}
 use Rattle.octets.specs.Layout.{body_start, events_start, data_start}
 use Rattle.frame_tlvs.specs.Walk.{met}
 use Rattle.frame_tlvs.specs.Events.{event_walk}
 use Rattle.frame_tlvs.specs.declared.Event.{Event}
-use Rattle.frame_body.specs.declared.Held.{Held}
-use Rattle.frame_body.specs.declared.Held.TheVariants.{Nothing, Is}
 use Rattle.frame_body.specs.declared.Found.{Found}
-use Rattle.frame_body.specs.Information.{InformationPart, local, remote, information_walk, local_in}
+use Rattle.frame_body.specs.Information.{information_walk, local_in}
+use Rattle.frame_body.specs.declared.InformationPart.{InformationPart}
+use Rattle.frame_body.specs.declared.InformationPart.TheVariants.{Local as local, Remote as remote}
 use Rattle.frame_body.specs.Variables.{Container, descriptor_walk, container_walk}
 use Rattle.frame.specs.Frame.{information, notification, request, response, loopback, organization, Message, judgement_of, header_of, fixed_number}
 use Rattle.frame.specs.declared.Header.{Header}
-use Rattle.frame.specs.declared.Judgement.{Judgement}
-use Rattle.frame.specs.declared.Judgement.TheVariants.{Refused, Accepted}
+use Rattle.frame.specs.Judgement.{Judgement, Refused, Accepted}
 use Rattle.frame_variables.specs.Answers.{containers_length}
 use Rattle.frame_writer.specs.Encode.{event_values}
-use Rattle.frame_writer.specs.Writing.{writes, written, WritingFormed, message_of, parts_of, events_of}
+use Rattle.frame_writer.specs.Writing.{Written, Wrote, writes, written, WritingFormed, message_of, parts_of, events_of}
 use Rattle.frame_writer.specs.Responses.{containers_of, all_containers}
-use Rattle.frame_writer.specs.declared.Written.{Written}
-use Rattle.frame_writer.specs.declared.Written.TheVariants.{Wrote}
 
 -- events as the writer takes them: seven numbers an event, its type and its six values
 abbrev pub sevens : List Event → List ℕ
@@ -27,10 +25,10 @@ sevens [] = []
 sevens (e ∷ es) = (e.kind ∷ event_values e) ++ sevens es
 
 -- the first Remote of the parts, as `local_in` is the first Local: a body that is accepted has no second
-abbrev pub remote_in : List InformationPart → Held
-remote_in [] = Nothing
+abbrev pub remote_in : List InformationPart → Option Information
+remote_in [] = None
 remote_in (local i ∷ ps) = remote_in ps
-remote_in (remote i ∷ ps) = Is i
+remote_in (remote i ∷ ps) = Some i
 
 abbrev pub found_in : List InformationPart → Found
 found_in ps = record { local = local_in ps; remote = remote_in ps }

@@ -2,9 +2,7 @@
 use Rattle.std.specs.Prelude.{ℕ, zero, suc, List, [], ◌∷◌, Bool, eqb}
 use Rattle.frame_tlvs.specs.declared.Event.{Event}
 use Rattle.frame.specs.Frame.{notification}
-use Rattle.frame_writer.specs.Writing.{writes, message_of, events_of}
-use Rattle.frame_writer.specs.declared.Written.{Written}
-use Rattle.frame_writer.specs.declared.Written.TheVariants.{Refused, Wrote}
+use Rattle.frame_writer.specs.Writing.{Written, Refused, Wrote, writes, message_of, events_of}
 use Rattle.theorems_frame.specs.Tables.{Row, ◌is◌}
 
 -- the octets of the longest: 20 before its events, and 16 events of 40

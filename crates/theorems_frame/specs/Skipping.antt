@@ -3,15 +3,13 @@
 use Rattle.std.specs.Prelude.{ℕ, zero, suc, List, [], ◌∷◌, ◌++◌, map, cond, drop, replicate}
 use Rattle.octets.specs.Layout.{body_start}
 use Rattle.frame_tlvs.specs.Walk.{Walk, ends, breaks, over, part, whole, skipped_in, beside}
-use Rattle.frame_tlvs.specs.Counting.{event_next}
+use Rattle.frame_tlvs.specs.Counting.{event_next, EventNext, End as EventsEnd, Broken as EventBroken, Skip as EventSkip, Has}
 use Rattle.frame_tlvs.specs.declared.Cursor.{Cursor}
 use Rattle.frame_tlvs.specs.declared.Event.{Event}
-use Rattle.frame_tlvs.specs.declared.EventNext.{EventNext}
-use Rattle.frame_tlvs.specs.declared.EventNext.TheVariants.{End as EventsEnd, Broken as EventBroken, Skip as EventSkip, Has}
-use Rattle.frame_body.specs.Information.{InformationPart, local, remote, information_walk}
-use Rattle.frame_body.specs.Counting.{information_next}
-use Rattle.frame_body.specs.declared.InformationNext.{InformationNext}
-use Rattle.frame_body.specs.declared.InformationNext.TheVariants.{End, Broken, Skip, Local, Remote}
+use Rattle.frame_body.specs.Information.{information_walk}
+use Rattle.frame_body.specs.declared.InformationPart.{InformationPart}
+use Rattle.frame_body.specs.declared.InformationPart.TheVariants.{Local as local, Remote as remote}
+use Rattle.frame_body.specs.Counting.{information_next, InformationNext, End, Broken, Skip, Local, Remote}
 use Rattle.frame.specs.Frame.{Body, information, notification, request, response, loopback, organization, Answer, refused, accepted, decode}
 use Rattle.frame_writer.specs.Encode.{header_octets, padded}
 use Rattle.theorems_frame.specs.Tables.{Row, ◌is◌}

@@ -1,23 +1,18 @@
 -- What a call promises that is lent an output is a call of a run.
-use Prim.Native.Nat.{ℕ, ◌+◌, ◌-◌, ◌≤◌}
+use Prim.Native.Nat.{ℕ, ◌+◌, ◌-◌, ◌≤◌, ◌<◌}
 use mathlib.Core.Path.{◌≡◌, refl, sym, ap, ◌∙◌}
 use mathlib.Core.List.{List, [], ◌++◌, append_assoc}
 use native.Mathlib.Nat.{add-zero}
 use native.Mathlib.Omega.{arith}
-use lib.ListN.{length, take, drop}
+use lib.ListN.{length, take, drop, length-drop}
 use lib.Seq.{sets, sets-eq, length-take-le, take_at, drop_at, drop-drop, drop-append-le}
-use Rattle.text.specs.Pieces.{Steps, Fed, fed_from, Stage, stage_after, gone_on}
-use Rattle.theorems_listing.specs.Runs.{IsCall, stage}
-use Rattle.theorems_listing.proofs.Pieces.{further, counted_from, taken_within}
-use Rattle.text_listing.specs.declared.feeding.Place.{Place}
-use Rattle.text_listing.specs.Feeding.{lister, Feeds}
-
--- octets that were stored are read from where they stand
-pub stored_there : (out : List ℕ) (at : ℕ) (text : List ℕ) → at + length text ≤ length out → take (length text) (drop at (sets out at text)) ≡ text
-stored_there out at text h =
-    ap (λ (x : List ℕ). take (length text) (drop at x)) (sets-eq text out at h ∙ append_assoc (take at out) text _)
-    ∙ ap (take (length text)) (drop_at (take at out) _ at (length-take-le at out (omega arith)))
-    ∙ take_at text _ (length text) refl
+use Rattle.text.specs.Pieces.{Steps, Fed, fed_from, to_say, Within, Call, Run, Stage, stage_after, gone_on, stage, Feeds}
+use Rattle.text.specs.declared.pieces.Place.{Place}
+use Rattle.theorems_listing.specs.Runs.{IsCall}
+use Rattle.theorems_listing.proofs.Pieces.{further, counted_from, taken_within, some_taken, said_in_all, one_call}
+use Rattle.text.proofs.Puts.{stored_there}
+use Rattle.text_listing.specs.declared.feeding.Progress.{Progress}
+use Rattle.text_listing.specs.Feeding.{lister}
 
 -- of any steps
 module _ {S : Type 0} (r : Steps S) (piece rest said : List ℕ) (a : Stage S) where
@@ -49,10 +44,37 @@ module _ {S : Type 0} (r : Steps S) (piece rest said : List ℕ) (a : Stage S) w
       let count : a.waiting + length own.said - a.waiting ≡ length own.said = omega arith in
       rw (is, take_at here rest (length here) refl, left_over, count, stored_there a.output a.waiting own.said (omega arith))
 
+-- what is left to say after a call is what was left before it, without what it said
+module _ {S : Type 0} (r : Steps S) (piece rest : List ℕ) (a b : Stage S) (is : b ≡ gone_on r piece a) (fits : b.waiting ≤ length a.output) where
+  pub still_to_say : to_say r a.state (drop a.taken piece ++ rest)
+      ≡ take (b.waiting - a.waiting) (drop a.waiting b.output) ++ to_say r b.state (drop b.taken piece ++ rest)
+  still_to_say =
+      let from : Run S = record { state = a.state; left = drop a.taken piece ++ rest; said = [] } in
+      let call : Call = record { size = length (drop a.taken piece); room = length a.output - a.waiting } in
+      one_call r call from ∙ ap (said_in_all r) (stage_is_call r piece rest [] a {b = b} is fits)
+
+  abbrev own_call : Fed S
+  own_call = own r piece rest [] a
+
+  taken_on : b.taken ≡ a.taken + own_call.taken
+  taken_on = ap (λ (x : Stage S). x.taken) (is ∙ counted r piece rest [] a)
+
+  -- no more of a piece is taken than there is
+  pub within_piece : a.taken ≤ length piece → b.taken ≤ length piece
+  within_piece some =
+      let left : length (drop a.taken piece) ≡ length piece - a.taken = length-drop a.taken piece in
+      let most_taken : own_call.taken ≤ 0 + length (drop a.taken piece) = taken_within r (length a.output - a.waiting) (record { state = a.state; taken = 0; said = [] }) (drop a.taken piece) in
+      omega (arith, taken_on)
+
+  -- with room for whatever is wanted, something is
+  pub more_taken : (most : ℕ) → Within r most → most ≤ length a.output - a.waiting → a.taken < length piece → a.taken < b.taken
+  more_taken most within room some =
+      let left : length (drop a.taken piece) ≡ length piece - a.taken = length-drop a.taken piece in
+      let least : 0 < own_call.taken = some_taken r most within a.state (length a.output - a.waiting) (drop a.taken piece) room (omega arith) in
+      omega (arith, taken_on)
+
 -- of the listing
-pub is_call : (p : Place) (f piece out rest said : List ℕ) {r : Place} {f' out' : List ℕ} → p.waiting ≤ length out → Feeds p f piece out r f' out'
-    → IsCall lister piece rest said (stage p f out) (stage r f' out')
-unfolding gone_on
-is_call p f piece out rest said {r} {f'} {out'} fits feeds =
-    let is : stage r f' out' ≡ gone_on lister piece (stage p f out) = rw (feeds.place, feeds.frame, feeds.output) in
-    stage_is_call lister piece rest said (stage p f out) {b = stage r f' out'} is (feeds.fits fits)
+pub is_call : (p : Progress) (at : Place) (f piece out rest said : List ℕ) {p' : Progress} {at' : Place} {f' out' : List ℕ} → at.waiting ≤ length out
+    → Feeds lister piece (stage p at f out) (stage p' at' f' out')
+    → IsCall lister piece rest said (stage p at f out) (stage p' at' f' out')
+is_call p at f piece out rest said fits feeds = stage_is_call lister piece rest said (stage p at f out) feeds.comes (feeds.fits fits)

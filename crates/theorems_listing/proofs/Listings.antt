@@ -83,13 +83,16 @@ by_lines s (c ∷ rest) e =
 
 -- ---- the theorems
 
+-- all that there is to say of an input, after the header
+pub all_listed : (frame input : List ℕ) → 1514 ≤ length frame → header ++ to_say lister (record { progress = begun; frame = frame }) input ≡ listing input
+unfolding listing
+all_listed frame input long =
+    ap (λ (said : List ℕ). header ++ said) (by_lines (record { progress = begun; frame = frame }) input long ∙ from_fresh 1 frame (lines input) long)
+
 pub listed : (frame input : List ℕ) (calls : List Call) → 1514 ≤ length frame → (run frame input calls).left ≡ []
     → header ++ ((run frame input calls).said ++ last_row (run frame input calls).state) ≡ listing input
-unfolding listing
 listed frame input calls long whole =
-    let start : State = record { progress = begun; frame = frame } in
-    ap (λ (said : List ℕ). header ++ said)
-    (said_whole lister start input calls whole ∙ by_lines start input long ∙ from_fresh 1 frame (lines input) long)
+    ap (λ (said : List ℕ). header ++ said) (said_whole lister (record { progress = begun; frame = frame }) input calls whole) ∙ all_listed frame input long
 
 -- no character wants more room than a row
 row_wanted : Within lister row_room

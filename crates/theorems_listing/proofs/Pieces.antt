@@ -82,10 +82,10 @@ module _ {S : Type 0} (r : Steps S) where
 
   -- ---- the calls keep what is said in all
 
-  abbrev said_in_all : Run S → List ℕ
+  abbrev pub said_in_all : Run S → List ℕ
   said_in_all run = run.said ++ to_say r run.state run.left
 
-  one_call : (c : Call) (run : Run S) → said_in_all run ≡ said_in_all (called r c run)
+  pub one_call : (c : Call) (run : Run S) → said_in_all run ≡ said_in_all (called r c run)
   one_call c run =
       let start : Fed S = record { state = run.state; taken = 0; said = [] } in
       let piece = take c.size run.left in

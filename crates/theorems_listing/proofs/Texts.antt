@@ -13,7 +13,7 @@ use lib.Seq.{sets, sets-eq, take_at}
 use Rattle.text.proofs.Bounds.{by_bound}
 use Rattle.frame.specs.Frame.{refused, header_answer, decode}
 use Rattle.text_listing.specs.declared.line.Line.TheVariants.{Whole, Foreign}
-use Rattle.text_listing.specs.declared.line.Decoded.TheVariants.{Length}
+use Rattle.std.specs.Prelude.{Some}
 use Rattle.text_listing.specs.declared.row.Entry.{Entry}
 use Rattle.text_listing.specs.declared.row.Entry.TheVariants.{Refused}
 use Rattle.text_listing.specs.Rows.{entry_of}
@@ -74,7 +74,7 @@ all_kept (octet ∷ octets) f n h =
 -- ---- a text after so many octets
 
 abbrev whole_entry : List ℕ → ℕ → List ℕ → Entry
-whole_entry f n text = decoded_entry (keep_all f n (octets_of text)) (Length (min (n + length (octets_of text)) 1515))
+whole_entry f n text = decoded_entry (keep_all f n (octets_of text)) (Some (min (n + length (octets_of text)) 1515))
 
 -- one digit is no octet
 odd_digit : (f : List ℕ) (n a : ℕ) → entry_after (Whole n) f (a ∷ []) ≡ Refused 14
@@ -126,14 +126,14 @@ module _ (f octets : List ℕ) where
   held_all = ap (λ (n : ℕ). min n 1514) (length-keep_all f 0 octets)
 
   -- the frame holds them, it is too short for them, or no frame has so many
-  holds : length octets ≤ held f → decoded_entry all (Length (min (0 + length octets) 1515)) ≡ entry_in (length f) octets
+  holds : length octets ≤ held f → decoded_entry all (Some (min (0 + length octets) 1515)) ≡ entry_in (length f) octets
   unfolding entry_in
   holds h =
       let same : min (0 + length octets) 1515 ≡ length octets = omega arith in
       let now : length octets ≤ held all = omega (arith, held_all) in
       rw (same, le-leb (length octets) (held all) now, first_octets h, le-leb (length octets) (length f) (omega arith))
 
-  too_short : length f < length octets → length octets ≤ 1514 → decoded_entry all (Length (min (0 + length octets) 1515)) ≡ entry_in (length f) octets
+  too_short : length f < length octets → length octets ≤ 1514 → decoded_entry all (Some (min (0 + length octets) 1515)) ≡ entry_in (length f) octets
   unfolding entry_in
   too_short h k =
       let same : min (0 + length octets) 1515 ≡ length octets = omega arith in
@@ -145,14 +145,14 @@ module _ (f octets : List ℕ) where
   refused_length true h = rw (too_long octets h)
   refused_length false h = rw (lt-leb (length octets) 1514 h)
 
-  no_frame : 1514 < length octets → decoded_entry all (Length (min (0 + length octets) 1515)) ≡ entry_in (length f) octets
+  no_frame : 1514 < length octets → decoded_entry all (Some (min (0 + length octets) 1515)) ≡ entry_in (length f) octets
   unfolding entry_in
   no_frame h =
       let same : min (0 + length octets) 1515 ≡ 1515 = omega arith in
       let now : held all < 1515 = omega (arith, held_all) in
       rw (same, lt-leb 1515 (held all) now) (refused_length (leb (length octets) (length f)) h)
 
-  all_octets_lem : decoded_entry all (Length (min (0 + length octets) 1515)) ≡ entry_in (length f) octets
+  all_octets_lem : decoded_entry all (Some (min (0 + length octets) 1515)) ≡ entry_in (length f) octets
   all_octets_lem =
       by_bound 1514 (length octets) no_frame
       (λ short. by_bound (length f) (length octets) (λ h. too_short h short) (λ h. holds (omega arith)))

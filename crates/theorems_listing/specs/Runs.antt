@@ -8,7 +8,6 @@ use Rattle.text_listing.specs.Lines.{hexadecimal, octets_of}
 use Rattle.text_listing.specs.Taking.{line_with, frame_with, decoded_of, too_many, decoded_entry}
 use Rattle.text_listing.specs.Feeding.{begun, State, lister}
 use Rattle.text_listing.specs.declared.line.Line.{Line}
-use Rattle.text_listing.specs.declared.feeding.Place.{Place}
 use Rattle.text_listing.specs.declared.row.Entry.{Entry}
 use Rattle.text_listing.specs.declared.row.Entry.TheVariants.{Refused}
 
@@ -22,10 +21,6 @@ IsCall r piece rest said a b =
     called r (record { size = length (drop a.taken piece); room = length a.output - a.waiting })
     (record { state = a.state; left = drop a.taken piece ++ rest; said = said })
     ≡ record { state = b.state; left = drop b.taken piece ++ rest; said = said ++ take (b.waiting - a.waiting) (drop a.waiting b.output) }
-
--- the stage of a call of the listing at a place, with its lent memory
-abbrev pub stage : Place → List ℕ → List ℕ → Stage State
-stage p f out = record { state = record { progress = p.progress; frame = f }; taken = p.taken; waiting = p.waiting; output = out }
 
 -- the entry of a line that goes on with a text, taken a character at a time, and ends
 unfoldable pub entry_after : Line → List ℕ → List ℕ → Entry

@@ -16,10 +16,8 @@ use Rattle.octets.proofs.Bools.{never}
 use Rattle.text.specs.Marks.{tab, newline}
 use Rattle.text.specs.Decimal.{decimal_in, decimal, field}
 use Rattle.text_eventlog.specs.Digits.{value_of, is_decimal}
-use Rattle.text_eventlog.specs.Line.{last_position, in_range_up_to, in_range, fields, line_of, parted, line_from, event_in, read_values, read_fields, read_line_up_to, read_line}
+use Rattle.text_eventlog.specs.Line.{last_position, in_range_up_to, in_range, fields, line_of, parted, line_from, event_in, read_values, read_fields, read_line_up_to, read_line, Reading, Refused, LineIs}
 use Rattle.text_eventlog.specs.declared.Line.{Line}
-use Rattle.text_eventlog.specs.declared.Reading.{Reading}
-use Rattle.text_eventlog.specs.declared.Reading.TheVariants.{Refused, Line as LineIs}
 use Rattle.text_eventlog.proofs.Ranges.{seven_cells}
 use Rattle.theorems_log.specs.Longest.{longest_line}
 use Rattle.theorems_log.proofs.Tabbed.{tabbed, tabbed-parted, parted-tabbed}

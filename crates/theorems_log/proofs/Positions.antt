@@ -15,11 +15,9 @@ use Rattle.theorems_frame.specs.Tables.{all_found, all_expected}
 use Rattle.text.specs.Marks.{newline}
 use Rattle.text.specs.Decimal.{decimal_in}
 use Rattle.text_eventlog.specs.Digits.{value_of, is_decimal}
-use Rattle.text_eventlog.specs.Line.{last_position, in_range_up_to, line_of, parted, line_from, read_values, read_fields, read_line_up_to, read_line}
+use Rattle.text_eventlog.specs.Line.{last_position, in_range_up_to, line_of, parted, line_from, read_values, read_fields, read_line_up_to, read_line, Reading, Refused, LineIs}
 use Rattle.text_eventlog.specs.Logging.{logs}
 use Rattle.text_eventlog.specs.declared.Line.{Line}
-use Rattle.text_eventlog.specs.declared.Reading.{Reading}
-use Rattle.text_eventlog.specs.declared.Reading.TheVariants.{Refused, Line as LineIs}
 use Rattle.theorems_log.specs.Positions.{up_to, old_reading}
 use Rattle.theorems_log.specs.Examples.{rows}
 use Rattle.theorems_log.proofs.Lines.{passed, written_reads}

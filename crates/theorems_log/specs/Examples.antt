@@ -1,14 +1,11 @@
 -- Computed examples of positions in the log, as a single table. Every answer is computed from the definitions that the contracts
 -- cite.
 use Rattle.std.specs.Prelude.{ℕ, List, [], ◌∷◌, ◌++◌}
-use Rattle.frame_writer.specs.declared.Written.{Written}
-use Rattle.frame_writer.specs.declared.Written.TheVariants.{Refused, Wrote}
+use Rattle.frame_writer.specs.Writing.{Written, Refused, Wrote}
 use Rattle.theorems_frame.specs.Tables.{Row, ◌is◌}
 use Rattle.text.specs.Marks.{tab, newline}
-use Rattle.text_eventlog.specs.Line.{line_from, read_line}
+use Rattle.text_eventlog.specs.Line.{line_from, read_line, Reading, Refused as NoLine, LineIs}
 use Rattle.text_eventlog.specs.Logging.{logs}
-use Rattle.text_eventlog.specs.declared.Reading.{Reading}
-use Rattle.text_eventlog.specs.declared.Reading.TheVariants.{Refused as NoLine, Line as LineIs}
 use Rattle.theorems_log.specs.Longest.{longest_line}
 use Rattle.theorems_log.specs.Positions.{old_reading}
 

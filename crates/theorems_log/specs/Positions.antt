@@ -1,8 +1,6 @@
 -- What builds with different last positions read of the log.
 use Rattle.std.specs.Prelude.{ℕ, List, cond, leb}
-use Rattle.text_eventlog.specs.Line.{read_line_up_to}
-use Rattle.text_eventlog.specs.declared.Reading.{Reading}
-use Rattle.text_eventlog.specs.declared.Reading.TheVariants.{Refused, Line as LineIs}
+use Rattle.text_eventlog.specs.Line.{read_line_up_to, Reading, Refused, LineIs}
 
 -- what is left of a reading where no position above a last one is taken
 abbrev pub up_to : (last : ℕ) → Reading → Reading

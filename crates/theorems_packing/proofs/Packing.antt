@@ -12,8 +12,7 @@ use lib.Seq.{sets-eq, take_all, take_at, drop_at, length-take-le}
 use Rattle.octets.specs.Octets.{Octets}
 use Rattle.octets.proofs.Bools.{whether, by_cond, and_l, and_r}
 use Rattle.link_end.specs.declared.End.{End}
-use Rattle.link_end.specs.declared.MaybeEnd.{MaybeEnd}
-use Rattle.link_end.specs.declared.MaybeEnd.TheVariants.{Refused, Is}
+use Rattle.link_end.specs.Parts.{Is, Refused, MaybeEnd}
 use Rattle.link_end.specs.Ranges.{tests, ranged, checked}
 use Rattle.link_end.proofs.Ranging.{all_at}
 use Rattle.link_windows.specs.declared.Watch.{Watch}

@@ -1,4 +1,5 @@
 -- The two laws of what is kept of a peer in octets.
+use Rattle.std.specs.Prelude.{Option, None, Some, ℕ}
 use Prim.Native.Nat.{ℕ, zero, suc, ◌+◌, ◌^◌, ◌<◌}
 use mathlib.Core.Path.{◌≡◌, refl, sym, ap, ◌∙◌}
 use mathlib.Core.List.{List, [], ◌∷◌, ◌++◌}
@@ -8,16 +9,13 @@ use borrow.Author.Tests.{leb-true, eqb-true, lt-ltb}
 use lib.Dec.{ltb, leb, eqb}
 use lib.ListN.{length, get_or, take, drop, replicate}
 use lib.Seq.{get_or-take, get_or-drop}
+use Rattle.frame_body.specs.declared.Information.{Information}
 use Rattle.octets.specs.Octets.{Octets, num, total, fields_at, octs, fit, zeros}
 use Rattle.octets.specs.Bits.{bit_of}
 use Rattle.octets.proofs.Numbers.{octet_at}
 use Rattle.frame_body.specs.Information.{information_widths, information_values}
 use Rattle.octets.proofs.Bools.{and_l, and_r, one_of}
-use Rattle.link_peer.specs.declared.Record.{Record}
-use Rattle.link_peer.specs.declared.Record.TheVariants.{Absent, Of}
 use Rattle.link_peer.specs.Peers.{is_held, record_says, record_of}
-use Rattle.link_end.specs.declared.Last.{Last}
-use Rattle.link_end.specs.declared.Last.TheVariants.{Never, Number}
 use Rattle.link_end.specs.declared.Peer.{Peer}
 use Rattle.link_end.specs.Ranges.{record_fits, last_fits}
 use Rattle.oam_packing.specs.Parts.{part_of, held_or_zero}
@@ -34,15 +32,15 @@ fit_append (w ∷ ws) us [] xs l f g = absurd (omega arith)
 fit_append (w ∷ ws) us (v ∷ vs) xs l f g =
     rw (and_l (ltb v (256 ^ w)) (fit ws vs) f) (fit_append ws us vs xs (omega arith) (and_r (ltb v (256 ^ w)) (fit ws vs) f) g)
 
-record_fits_lem : (r : Record) → record_fits r ≡ true → fit information_widths (information_values (record_says r)) ≡ true
+record_fits_lem : (r : Option Information) → record_fits r ≡ true → fit information_widths (information_values (record_says r)) ≡ true
 unfolding record_fits
-record_fits_lem Absent h = refl
-record_fits_lem (Of i) h = h
+record_fits_lem None h = refl
+record_fits_lem (Some i) h = h
 
-last_fits_lem : (l : Last) → last_fits l ≡ true → fit last_widths (last_numbers l) ≡ true
+last_fits_lem : (l : Option ℕ) → last_fits l ≡ true → fit last_widths (last_numbers l) ≡ true
 unfolding last_fits
-last_fits_lem Never h = refl
-last_fits_lem (Number n) h = rw h
+last_fits_lem None h = refl
+last_fits_lem (Some n) h = rw h
 
 peer_fit : (p : Peer) → leb p.kept 2 ≡ true → record_fits p.held ≡ true → last_fits p.last ≡ true → fit peer_widths (peer_numbers p) ≡ true
 peer_fit p k h l =
@@ -50,13 +48,13 @@ peer_fit p k h l =
     rw (kept, bit_fits (is_held p.held))
     (fit_append information_widths last_widths (information_values (record_says p.held)) (last_numbers p.last) refl (record_fits_lem p.held h) (last_fits_lem p.last l))
 
-record_back : (r : Record) → record_of (eqb (bit_of (is_held r)) 1) (record_says r) ≡ r
-record_back Absent = refl
-record_back (Of i) = refl
+record_back : (r : Option Information) → record_of (eqb (bit_of (is_held r)) 1) (record_says r) ≡ r
+record_back None = refl
+record_back (Some i) = refl
 
-last_back : (l : Last) → last_of (eqb (bit_of (known l)) 1) (last_number l) ≡ l
-last_back Never = refl
-last_back (Number n) = refl
+last_back : (l : Option ℕ) → last_of (eqb (bit_of (known l)) 1) (last_number l) ≡ l
+last_back None = refl
+last_back (Some n) = refl
 
 pub peer_back : (p : Peer) → leb p.kept 2 ≡ true → record_fits p.held ≡ true → last_fits p.last ≡ true → peer_from (peer_octets p) ≡ p
 unfolding peer_from peer_octets
@@ -65,12 +63,12 @@ peer_back p k h l =
     (λ i. record { kept = p.kept; held = record_back p.held i; last = last_back p.last i })
 
 -- what is held says so, and what is not is 0
-is_by : (k : ℕ) (r : Record) (l : Last) → is_peer (octs peer_widths (k ∷ record_numbers r ++ last_numbers l)) ≡ true
+is_by : (k : ℕ) (r : Option Information) (l : Option ℕ) → is_peer (octs peer_widths (k ∷ record_numbers r ++ last_numbers l)) ≡ true
 unfolding is_peer held_or_zero
-is_by k Absent Never = refl
-is_by k Absent (Number n) = refl
-is_by k (Of i) Never = refl
-is_by k (Of i) (Number n) = refl
+is_by k None None = refl
+is_by k None (Some n) = refl
+is_by k (Some i) None = refl
+is_by k (Some i) (Some n) = refl
 
 pub peer_is : (p : Peer) → is_peer (peer_octets p) ≡ true
 unfolding peer_octets

@@ -2,18 +2,16 @@
 -- code 05 (5); TLV 01 length 15 (6); two Local TLVs (7); command 0 (8); width 00 is 128, 7F is 127, 80 none; revision
 -- 65,535 then 0; lost-link count 49 stays, 50 enters FAULT; eleventh frame (13)", this last over a stretch of intervals. Beside it
 -- a table of notifications by the two maximum sizes. Every number is computed from the definitions that the contracts cite.
-use Rattle.std.specs.Prelude.{ℕ, zero, suc, ◌+◌, ◌-◌, ◌*◌, ◌^◌, List, [], ◌∷◌, ◌++◌, true, false, length, replicate}
+use Rattle.std.specs.Prelude.{ℕ, zero, suc, ◌+◌, ◌-◌, ◌*◌, ◌^◌, List, [], ◌∷◌, ◌++◌, true, false, length, replicate, Some, None}
 use Rattle.octets.specs.Bits.{bit_of}
 use Rattle.frame.specs.Frame.{Answer, refused, accepted, loopback, decode}
 use Rattle.frame_body.specs.Variables.{container_step}
-use Rattle.frame_body.specs.declared.ContainerStep.{ContainerStep}
-use Rattle.frame_body.specs.declared.ContainerStep.TheVariants.{Value, Indication}
+use Rattle.frame_body.specs.Variables.{ContainerStep}
+use Rattle.frame_body.specs.Variables.{Value, Indication}
 use Rattle.link_limit.specs.Limit.{written_frames}
-use Rattle.link_peer.specs.declared.Record.TheVariants.{Of}
 use Rattle.link_loopback.specs.declared.Role.TheVariants.{Idle}
 use Rattle.link_end.specs.declared.End.{End}
-use Rattle.link_end.specs.declared.Last.TheVariants.{Never}
-use Rattle.link.specs.declared.Outcome.{Outcome}
+use Rattle.link.specs.Outcomes.{Outcome}
 use Rattle.link_end.specs.Ranges.{blank}
 use Rattle.theorems_frame.specs.Tables.{Row, ◌is◌}
 use Rattle.theorems_frame.specs.Notifying.{longest_notification, event_numbers}
@@ -61,8 +59,8 @@ end_of_sizes own peer lost intervals revision =
       link = record { up = true; lost = lost };
       peer = record {
         kept = 2;
-        held = Of (record { version = 1; revision = 0; state = 0; configuration = 5; oampdu = peer; oui = 1; vendor = 2 });
-        last = Never;
+        held = Some (record { version = 1; revision = 0; state = 0; configuration = 5; oampdu = peer; oui = 1; vendor = 2 });
+        last = None;
       };
       role = Idle;
       meter = record { ticks = 0; intervals = intervals };

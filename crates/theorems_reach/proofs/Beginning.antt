@@ -1,6 +1,7 @@
 -- An end begins to loop only in a call that receives an enable, with its own bit 2 set, a record of an active peer held, and
 -- discovery in SEND_ANY after the call; and an end that loops received such a one in its present stay there. This is so whoever
 -- sent the frame.
+use Rattle.std.specs.Prelude.{Option, None, Some}
 use Prim.Native.Nat.{ℕ, ◌%◌, ◌<◌}
 use mathlib.Core.Path.{◌≡◌, refl, sym, ap, ◌∙◌, subst}
 use mathlib.Core.List.{List, [], ◌∷◌}
@@ -8,10 +9,9 @@ use mathlib.Core.Bool.{Bool, true, false, ◌&&◌}
 use mathlib.Core.Logic.{◌⊎◌, inl, inr, ⊎_elim}
 use borrow.Author.Tests.{ltb-true, eqb-true, eqb-false}
 use lib.Dec.{ltb, eqb}
+use Rattle.frame_body.specs.declared.Information.{Information}
 use Rattle.octets.proofs.Bools.{by_cond, never, and_l, and_r, not_both, whether}
 use Rattle.frame.specs.Frame.{Body, information, notification, request, response, loopback, organization, Message, local_of}
-use Rattle.frame_body.specs.declared.Held.{Held}
-use Rattle.frame_body.specs.declared.Held.TheVariants.{Nothing, Is}
 use Rattle.octets.specs.Bits.{bit}
 use Rattle.link_peer.specs.Peers.{peer_active}
 use Rattle.link_peer.specs.declared.Settings.{Settings}
@@ -23,13 +23,12 @@ use Rattle.link_discovery.specs.declared.Discovery.{Discovery}
 use Rattle.link_discovery.specs.declared.Discovery.TheVariants.{Fault, ActiveSendLocal, PassiveWait, SendLocalRemote, SendLocalRemoteOk, SendAny}
 use Rattle.link_end.specs.declared.End.{End}
 use Rattle.link_end.specs.declared.Heard.{Heard}
-use Rattle.link_end.specs.declared.Taken.{Taken}
 use Rattle.link_end.specs.declared.Report.{Report}
 use Rattle.link_end.specs.declared.Report.TheVariants.{LinkUp, LinkDown, DyingGasp, CriticalEvent}
 use Rattle.link_end.specs.Parts.{fresh_end, discovery_of, in_any, faulted, settled}
 use Rattle.link_end.specs.Ticking.{missed, ticked}
 use Rattle.link_end.specs.Reporting.{link_up, link_down, reported}
-use Rattle.link_end.specs.Taking.{learned, obeys_command, obeyed, role_after, acted, taken_up, taken}
+use Rattle.link_end.specs.Taking.{Taken, learned, obeys_command, obeyed, role_after, acted, taken_up, taken}
 use Rattle.theorems_reach.specs.Machine.{Request, start, stop, variables, notify, tell, respond, Input, Call, asked_of, outcome_of}
 use Rattle.theorems_reach.specs.Runs.{after}
 use Rattle.theorems_reach.specs.Premises.{Accepted, AllOfOctets}
@@ -72,10 +71,10 @@ settled_loops SendLocalRemote r h = not_looping refl h
 settled_loops SendLocalRemoteOk r h = not_looping refl h
 settled_loops SendAny r h = h
 
-after_local_loops : (local : Held) (r : Role) → Loops (role_after_local local r) → Loops r
+after_local_loops : (local : Option Information) (r : Role) → Loops (role_after_local local r) → Loops r
 unfolding role_after_local
-after_local_loops Nothing r h = h
-after_local_loops (Is i) r h = by r (eqb (i.state % 8) 5) (eqb (i.state % 8) 0) h
+after_local_loops None r h = h
+after_local_loops (Some i) r h = by r (eqb (i.state % 8) 5) (eqb (i.state % 8) 0) h
   where
     by : (r : Role) (looping forward : Bool) → Loops (after_actions r looping forward) → Loops r
     by Idle looping forward h = h

@@ -19,7 +19,6 @@ use Rattle.link_peer.specs.Peers.{peer_maximum}
 use Rattle.link_end.specs.declared.End.{End}
 use Rattle.link_end.specs.declared.Report.{Report}
 use Rattle.link_end.specs.declared.News.TheVariants.{Nothing}
-use Rattle.link_end.specs.declared.Taken.{Taken}
 use Rattle.link_end.specs.Parts.{in_any}
 use Rattle.link_end.specs.Sending.{dues}
 use Rattle.link.specs.Outcomes.{outcome, length_of, concluded, concluded_output, too_short}
@@ -28,7 +27,7 @@ use Rattle.link.specs.Ticks.{tick_of, tick_output}
 use Rattle.link_end.specs.Reporting.{reported, reported_due}
 use Rattle.link.specs.Reports.{report_of, report_output}
 use Rattle.link_end.specs.Hearing.{heard_of}
-use Rattle.link_end.specs.Taking.{taken, taken_due}
+use Rattle.link_end.specs.Taking.{Taken, taken, taken_due}
 use Rattle.link.specs.Hearing.{concluded_heard, concluded_heard_output, receive_of, receive_output}
 use Rattle.link_end.specs.Granting.{answer_to, granted, decided}
 use Rattle.link.specs.Requests.{Asked, octets_asked, request_to_send, concluded_request, concluded_request_output, request_of, request_output}

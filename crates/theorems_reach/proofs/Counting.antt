@@ -15,7 +15,7 @@ use Rattle.link_limit.specs.declared.Meter.{Meter}
 use Rattle.link_limit.proofs.Newest.{newest_none}
 use Rattle.link_peer.specs.declared.Settings.{Settings}
 use Rattle.link_end.specs.declared.End.{End}
-use Rattle.link.specs.declared.Outcome.{Outcome}
+use Rattle.link.specs.Outcomes.{Outcome}
 use Rattle.link_end.specs.Parts.{fresh_end}
 use Rattle.link_end.specs.Sending.{dues, sends, sent}
 use Rattle.link_end.specs.Granting.{granted}

@@ -9,15 +9,13 @@ use Rattle.octets.proofs.Bools.{by_cond}
 use Rattle.link_loopback.specs.declared.Role.{Role}
 use Rattle.link_end.specs.declared.End.{End}
 use Rattle.link_end.specs.declared.Report.{Report}
-use Rattle.link.specs.declared.Outcome.{Outcome}
 use Rattle.link_end.specs.declared.News.{News}
-use Rattle.link_end.specs.declared.Taken.{Taken}
 use Rattle.link_end.specs.Parts.{discovery_of, in_any}
 use Rattle.link_end.specs.Sending.{dues, sends, sent}
-use Rattle.link.specs.Outcomes.{concluded}
+use Rattle.link.specs.Outcomes.{Outcome, concluded}
 use Rattle.link_end.specs.Ticking.{ticked}
 use Rattle.link_end.specs.Reporting.{reported}
-use Rattle.link_end.specs.Taking.{taken}
+use Rattle.link_end.specs.Taking.{Taken, taken}
 use Rattle.link_end.specs.Granting.{granted}
 use Rattle.theorems_reach.specs.Machine.{Request, Input, tick, report, receive, request, Call, asked_of, outcome_of}
 use Rattle.theorems_reach.proofs.Coming.{Made, ticks as made_ticks, reports as made_reports, hears as made_hears, dues_after, Comes, refuses, concludes, grants, comes}

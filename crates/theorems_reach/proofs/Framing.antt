@@ -16,11 +16,10 @@ use Rattle.frame_writer.specs.Writing.{writes, written, message_of, parts_of}
 use Rattle.theorems_frame.proofs.Sizes.{encode-length}
 use Rattle.theorems_frame.proofs.RoundTrip.{read_back}
 use Rattle.link_end.specs.declared.End.{End}
-use Rattle.link.specs.declared.Outcome.{Outcome}
-use Rattle.link_end.specs.declared.Taken.{Taken}
+use Rattle.link_end.specs.Taking.{Taken}
 use Rattle.link_end.specs.Parts.{discovery_of}
 use Rattle.link_end.specs.Sending.{fault_flag_of, flags_to_send, tlvs_to_send, dues, sends, sent}
-use Rattle.link.specs.Outcomes.{information_to_send, length_of, outcome, concluded, concluded_output}
+use Rattle.link.specs.Outcomes.{Outcome, information_to_send, length_of, outcome, concluded, concluded_output}
 use Rattle.link_end.specs.Granting.{granted}
 use Rattle.link.specs.Requests.{octets_asked, request_to_send}
 use Rattle.link_end.specs.Ranges.{ranged}

@@ -1,5 +1,6 @@
 -- An end stays ranged outside `link_end`: each public function of that crate which gives an end gives a ranged one for a ranged
--- one. So no crate above it, whatever it does, comes to another end; only `fresh` and `end_with` make one out of none.
+-- one, in its result or behind a `&mut`. So no crate above it, whatever it does, comes to another end; only `fresh` and `with` make
+-- one out of none.
 use Prim.Native.Nat.{ℕ, ◌^◌, ◌<◌}
 use mathlib.Core.Path.{◌≡◌, refl, sym, ap, ◌∙◌}
 use mathlib.Core.List.{List, []}
@@ -15,17 +16,13 @@ use Rattle.link_peer.specs.Ranges.{sound}
 use Rattle.link_peer.specs.declared.Settings.{Settings}
 use Rattle.link_loopback.specs.Loopback.{may_start, may_stop}
 use Rattle.link_end.specs.declared.End.{End}
-use Rattle.link_end.specs.declared.MaybeEnd.{MaybeEnd}
-use Rattle.link_end.specs.declared.MaybeEnd.TheVariants.{Refused, Is}
 use Rattle.link_end.specs.declared.Report.{Report}
 use Rattle.link_end.specs.declared.Heard.{Heard}
-use Rattle.link_end.specs.declared.Said.{Said}
-use Rattle.link_end.specs.declared.Said.TheVariants.{Refusal, Is as SaidIs}
-use Rattle.link_end.specs.Parts.{fresh_of}
+use Rattle.link_end.specs.Parts.{Is, Refused, MaybeEnd, fresh_of}
 use Rattle.link_end.specs.Sending.{sends, sent, after_sending}
 use Rattle.link_end.specs.Ticking.{ticked_due}
 use Rattle.link_end.specs.Reporting.{reported_due}
-use Rattle.link_end.specs.Hearing.{said_by, heard_of}
+use Rattle.link_end.specs.Hearing.{Is as SaidIs, Refusal, Said, said_by, heard_of}
 use Rattle.link_end.specs.Taking.{taken_due, taken_whole}
 use Rattle.link_end.specs.Granting.{answer_to, granted, decided, granted_start, granted_stop, granted_frame, granted_number, granted_response, response_allowed}
 use Rattle.link_end.specs.Ranges.{ranged, checked}
@@ -51,10 +48,10 @@ fresh_guarded s v e =
     (λ t h. rw (← ap (end_in e) h) (fresh_ranged s t v))
     (λ _ h. let z : ◌≡◌ {A = ℕ} 0 1 = cc in absurd (omega arith))
 
--- `end_with`, for any parts
-pub end_with_guarded : (x e : End) → checked x ≡ Is e → ranged e ≡ true
+-- `with`, for any parts
+pub with_guarded : (x e : End) → checked x ≡ Is e → ranged e ≡ true
 unfolding checked
-end_with_guarded x e =
+with_guarded x e =
     by_cond (λ (f : MaybeEnd). f ≡ Is e → ranged e ≡ true) (ranged x)
     (λ t h. rw (← ap (end_in e) h) t)
     (λ _ h. let z : ◌≡◌ {A = ℕ} 0 1 = cc in absurd (omega arith))
@@ -65,19 +62,19 @@ module _ (e : End) (h : ranged e ≡ true) where
   abbrev known : Ranged e
   known = ranged_is e h
 
-  pub ticked_due_guarded : ranged (ticked_due e) ≡ true
+  pub tick_guarded : ranged (ticked_due e) ≡ true
   unfolding ticked_due
-  ticked_due_guarded = is_ranged (ticked_due e) (made_ranged e tick _ ticks tt known)
+  tick_guarded = is_ranged (ticked_due e) (made_ranged e tick _ ticks tt known)
 
-  pub report_due_guarded : (r : Report) → ranged (reported_due r e) ≡ true
+  pub report_guarded : (r : Report) → ranged (reported_due r e) ≡ true
   unfolding reported_due
-  report_due_guarded r = is_ranged (reported_due r e) (made_ranged e (report r) _ (reports r) tt known)
+  report_guarded r = is_ranged (reported_due r e) (made_ranged e (report r) _ (reports r) tt known)
 
-  -- `taken_whole`, for what `hear` gives of a frame of octets: nothing else gives what is heard
-  pub taken_whole_guarded : (f : List ℕ) → Octets f → (m : Heard) → said_by (decode f) ≡ SaidIs m
+  -- `take`, for what `hear` gives of a frame of octets: nothing else gives what is heard
+  pub take_guarded : (f : List ℕ) → Octets f → (m : Heard) → said_by (decode f) ≡ SaidIs m
       → ranged (taken_whole m e).end ≡ true
   unfolding taken_whole taken_due
-  taken_whole_guarded f o m s = by_answer (decode f) refl
+  take_guarded f o m s = by_answer (decode f) refl
     where
       heard_said : Said → Heard
       heard_said (Refusal n) = m
@@ -93,8 +90,8 @@ module _ (e : End) (h : ranged e ≡ true) where
           let is : heard_of x ≡ m = ap heard_said r in
           rw (← is) (is_ranged (taken_whole (heard_of x) e).end (made_ranged e (receive f) _ (hears f x d) (octets_fit (receive f) o) known))
 
-  pub after_sending_guarded : ranged (after_sending e) ≡ true
-  after_sending_guarded = by_cond (λ (x : End). ranged x ≡ true) (sends e) (λ _. is_ranged (sent e) (sent_ranged e known)) (λ _. h)
+  pub pay_guarded : ranged (after_sending e) ≡ true
+  pay_guarded = by_cond (λ (x : End). ranged x ≡ true) (sends e) (λ _. is_ranged (sent e) (sent_ranged e known)) (λ _. h)
 
   -- a request that is decided as the machine's are, and makes of the end what one of those makes
   decided_guarded : (q : Request) (octets : ℕ) (permitted measured : Bool) (lent : ℕ)
@@ -109,13 +106,13 @@ module _ (e : End) (h : ranged e ≡ true) where
       is_ranged (granted e (asked_of q e).next) (asked_ranged q e k.any (p k.permitted) known))
       (λ _. h)
 
-  pub grant_start_guarded : (lent : ℕ) → ranged (granted_start lent e).end ≡ true
+  pub start_guarded : (lent : ℕ) → ranged (granted_start lent e).end ≡ true
   unfolding granted_start
-  grant_start_guarded lent = decided_guarded start shortest_frame (may_start e.settings.configuration e.peer.held e.role) true lent (λ p. p)
+  start_guarded lent = decided_guarded start shortest_frame (may_start e.settings.configuration e.peer.held e.role) true lent (λ p. p)
 
-  pub grant_stop_guarded : (lent : ℕ) → ranged (granted_stop lent e).end ≡ true
+  pub stop_guarded : (lent : ℕ) → ranged (granted_stop lent e).end ≡ true
   unfolding granted_stop
-  grant_stop_guarded lent = decided_guarded stop shortest_frame (may_stop e.settings.configuration e.role) true lent (λ p. p)
+  stop_guarded lent = decided_guarded stop shortest_frame (may_stop e.settings.configuration e.role) true lent (λ p. p)
 
   pub grant_frame_guarded : (octets : ℕ) (permitted : Bool) (lent : ℕ) → ranged (granted_frame octets permitted lent e).end ≡ true
   unfolding granted_frame

@@ -1,5 +1,6 @@
 -- Every accepted frame shows its header, with the number of TLVs that were skipped: "The machine's receive answer and the lister
 -- carry the total." The end may be any: with the link down, outside SEND_ANY, and a repeat too.
+use Rattle.std.specs.Prelude.{Option, ℕ}
 use Prim.Native.Nat.{ℕ, ◌≤◌}
 use mathlib.Core.Path.{◌≡◌, refl}
 use mathlib.Core.List.{List}
@@ -13,18 +14,15 @@ use Rattle.link_end.specs.declared.Action.TheVariants.{Inform, Notify, Command, 
 use Rattle.link_end.specs.declared.End.{End}
 use Rattle.link_end.specs.declared.Heard.{Heard}
 use Rattle.link_end.specs.declared.News.{News}
-use Rattle.link_end.specs.declared.Taken.{Taken}
-use Rattle.link_end.specs.declared.Last.{Last}
 use Rattle.link_end.specs.Parts.{in_any}
 use Rattle.link_end.specs.Hearing.{heard_of}
 use Rattle.link_end.specs.Sending.{sends}
-use Rattle.link_end.specs.Taking.{is_repeat, shown_events, shown_of, learned, taken_up, taken, taken_due}
-use Rattle.link.specs.declared.Outcome.{Outcome}
-use Rattle.link.specs.Outcomes.{concluded}
+use Rattle.link_end.specs.Taking.{Taken, is_repeat, shown_events, shown_of, learned, taken_up, taken, taken_due}
+use Rattle.link.specs.Outcomes.{Outcome, concluded}
 use Rattle.link.specs.Hearing.{concluded_heard, receive_of}
 use Rattle.theorems_reach.specs.Showing.{Heads}
 
-shown_heads : (h : Header) (a : Action) (last : Last) → Heads h (shown_of h a last)
+shown_heads : (h : Header) (a : Action) (last : Option ℕ) → Heads h (shown_of h a last)
 unfolding shown_of shown_events
 shown_heads h Inform last = refl
 shown_heads h (Notify n) last = by_cond (Heads h) (is_repeat n last) (λ _. refl) (λ _. refl)

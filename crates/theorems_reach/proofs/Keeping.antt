@@ -19,11 +19,10 @@ use Rattle.link_end.specs.declared.End.{End}
 use Rattle.link_end.specs.declared.Report.{Report}
 use Rattle.link_end.specs.declared.Report.TheVariants.{LinkUp, LinkDown, DyingGasp, CriticalEvent}
 use Rattle.link_end.specs.declared.Heard.{Heard}
-use Rattle.link_end.specs.declared.Taken.{Taken}
 use Rattle.link_end.specs.Parts.{with_link, no_peer, discovery_of, in_any, faulted, settled, with_up, with_lost}
 use Rattle.link_end.specs.Ticking.{missed, ticked}
 use Rattle.link_end.specs.Reporting.{link_up, link_down, reported}
-use Rattle.link_end.specs.Taking.{learned, last_after, acted, taken_up, taken}
+use Rattle.link_end.specs.Taking.{Taken, learned, last_after, acted, taken_up, taken}
 use Rattle.link_end.specs.Ranges.{record_fits, last_fits, never, idle, blank}
 use Rattle.theorems_reach.specs.Machine.{Input, tick, report, receive, request}
 use Rattle.theorems_reach.specs.Premises.{OfOctets}

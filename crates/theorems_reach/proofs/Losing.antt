@@ -16,10 +16,9 @@ use Rattle.link_loopback.specs.declared.Role.TheVariants.{Idle}
 use Rattle.link_end.specs.declared.Link.{Link}
 use Rattle.link_end.specs.declared.Peer.{Peer}
 use Rattle.link_end.specs.declared.End.{End}
-use Rattle.link.specs.declared.Outcome.{Outcome}
 use Rattle.link_end.specs.Parts.{no_peer, discovery_of, faulted, settled}
 use Rattle.link_end.specs.Sending.{dues, sends, sent}
-use Rattle.link.specs.Outcomes.{concluded}
+use Rattle.link.specs.Outcomes.{Outcome, concluded}
 use Rattle.link_end.specs.Ticking.{missed, ticked, ticked_due}
 use Rattle.link.specs.Ticks.{tick_of}
 

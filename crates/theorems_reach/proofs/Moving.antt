@@ -1,16 +1,15 @@
 -- Every call takes an end's discovery by the paper's moves, from where it stood, or from FAULT where the call enters it: on
 -- link down or on the lost-link count, and on nothing else. There is one place only where the moves come to rest, whichever are
 -- taken first. This is so of any end.
+use Rattle.std.specs.Prelude.{Option, None, Some}
 use Prim.Native.Nat.{◌+◌}
 use mathlib.Core.Path.{◌≡◌, refl, sym, ap, ◌∙◌, subst}
 use mathlib.Core.Bool.{Bool, true, false, cond, ◌&&◌}
 use borrow.Author.Tests.{eqb-true, eqb-false}
 use lib.Dec.{eqb}
+use Rattle.frame_body.specs.declared.Information.{Information}
 use Rattle.octets.proofs.Bools.{by_cond, never, and_l, and_r, whether}
-use Rattle.frame_body.specs.declared.Held.{Held}
-use Rattle.frame_body.specs.declared.Held.TheVariants.{Nothing, Is}
 use Rattle.octets.specs.Bits.{bit}
-use Rattle.link_peer.specs.declared.Record.{Record}
 use Rattle.link_peer.specs.Peers.{is_held, satisfied, record_from}
 use Rattle.link_loopback.specs.declared.Role.TheVariants.{Idle}
 use Rattle.link_discovery.specs.declared.Discovery.{Discovery}
@@ -97,9 +96,9 @@ module _ (e : End) where
   unfolding learned settled acted
   taken_borne m = by_taken m e (BorneBy (discovery_of e)) (λ _. same e) (λ _ _. kept) (λ _ _ _. kept)
     where
-      held_stays : (l : Held) (r : Record) → is_held r ≡ true → is_held (record_from l r) ≡ true
-      held_stays Nothing r k = k
-      held_stays (Is i) r k = refl
+      held_stays : (l : Option Information) (r : Option Information) → is_held r ≡ true → is_held (record_from l r) ≡ true
+      held_stays None r k = k
+      held_stays (Some i) r k = refl
 
       kept : BorneBy (discovery_of e) (learned m e)
       kept = stays e (learned m e) refl refl (held_stays m.local e.peer.held)

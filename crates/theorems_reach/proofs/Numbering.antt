@@ -12,10 +12,9 @@ use Rattle.frame_writer.specs.Writing.{events_of}
 use Rattle.link_loopback.specs.Roles.{octet_of}
 use Rattle.link_limit.specs.Owing.{following, revised}
 use Rattle.link_end.specs.declared.End.{End}
-use Rattle.link.specs.declared.Outcome.{Outcome}
-use Rattle.link_end.specs.declared.Taken.{Taken}
+use Rattle.link_end.specs.Taking.{Taken}
 use Rattle.link_end.specs.Sending.{octet_changed, dues, sends, sent}
-use Rattle.link.specs.Outcomes.{outcome, concluded}
+use Rattle.link.specs.Outcomes.{Outcome, outcome, concluded}
 use Rattle.link_end.specs.Granting.{granted}
 use Rattle.theorems_reach.specs.Machine.{Request, start, stop, variables, notify, tell, respond, Input, tick, report, receive, request, Call, outcome_of, meant}
 use Rattle.theorems_reach.proofs.Coming.{Made, ticks, reports, hears, dues_after, Concludes, Comes, refuses, concludes, grants, comes}

@@ -6,7 +6,7 @@ use mathlib.Core.Logic.{◌⊎◌, inl, inr}
 use Rattle.frame.specs.Frame.{information}
 use Rattle.frame_writer.specs.Writing.{parts_of}
 use Rattle.link_end.specs.declared.End.{End}
-use Rattle.link.specs.declared.Outcome.{Outcome}
+use Rattle.link.specs.Outcomes.{Outcome}
 use Rattle.link_end.specs.Parts.{discovery_of}
 use Rattle.link_end.specs.Sending.{fault_flag_of, allowed, tlvs_to_send, dues, sends}
 use Rattle.link_end.specs.Granting.{granted}

@@ -11,7 +11,7 @@ use Rattle.octets.proofs.Bools.{never, and_l, and_r, not_both, whether}
 use Rattle.link_limit.specs.Limit.{most_frames, written_frames, has_room}
 use Rattle.link_peer.specs.declared.Settings.{Settings}
 use Rattle.link_end.specs.declared.End.{End}
-use Rattle.link.specs.declared.Outcome.{Outcome}
+use Rattle.link.specs.Outcomes.{Outcome}
 use Rattle.link_end.specs.Sending.{sends, sent}
 use Rattle.theorems_reach.specs.Machine.{Call, outcome_of}
 use Rattle.theorems_reach.specs.Runs.{after, OwesAfterEach, wrote, is_tick, accepted_tick, entry_of, history}

@@ -1,5 +1,6 @@
 -- What a ranged end writes has plain form: its flags, its Local TLV, its peer's record with ignored bits zero. Its Information
 -- frame is 60 octets long.
+use Rattle.std.specs.Prelude.{Option, None, Some}
 use Prim.Native.Nat.{ℕ, ◌/◌, ◌%◌, ◌^◌, ◌<◌, ◌≤◌}
 use mathlib.Core.Path.{◌≡◌, refl, ap}
 use mathlib.Core.Bool.{Bool, true, false, cond}
@@ -11,7 +12,6 @@ use Rattle.frame.specs.Flags.{flags_of, flags_number}
 use Rattle.frame.specs.Frame.{Body, information, Message}
 use Rattle.frame.specs.declared.Flags.{Flags}
 use Rattle.frame_body.specs.declared.Information.{Information}
-use Rattle.frame_body.specs.declared.Held.TheVariants.{Nothing, Is}
 use Rattle.octets.proofs.Masks.{bit_lt}
 use Rattle.frame.proofs.FlagLaws.{split_join}
 use Rattle.octets.specs.Octets.{fit}
@@ -25,8 +25,6 @@ use Rattle.theorems_frame.proofs.Informing.{plain_parts_lem}
 use Rattle.link_loopback.specs.Roles.{octet_of}
 use Rattle.link_peer.specs.Ranges.{sound}
 use Rattle.link_discovery.specs.Sending.{local_field, remote_field, own_information, cleared_information, cleared_record}
-use Rattle.link_peer.specs.declared.Record.{Record}
-use Rattle.link_peer.specs.declared.Record.TheVariants.{Absent, Of}
 use Rattle.link_peer.specs.declared.Settings.{Settings}
 use Rattle.link_loopback.specs.declared.Role.{Role}
 use Rattle.link_loopback.specs.declared.Role.TheVariants.{Idle, Asking, Holding, Ending, Looping}
@@ -63,10 +61,10 @@ local_le SendLocalRemote = omega arith
 local_le SendLocalRemoteOk = omega arith
 local_le SendAny = omega arith
 
-pub remote_le : (kept : ℕ) (r : Record) → kept ≤ 2 → remote_field kept r ≤ 2
+pub remote_le : (kept : ℕ) (r : Option Information) → kept ≤ 2 → remote_field kept r ≤ 2
 unfolding remote_field
-remote_le kept Absent h = omega arith
-remote_le kept (Of i) h = h
+remote_le kept None h = omega arith
+remote_le kept (Some i) h = h
 
 flags_plain : (e : End) → Stands e → plain_flags (flags_to_send e) ≡ true
 unfolding flags_to_send
@@ -120,11 +118,11 @@ cleared_plain i h =
     (ltb-true i.revision (256 ^ 2) revision) (ltb-true i.oui (256 ^ 3) oui) (ltb-true i.vendor (256 ^ 4) vendor)
 
 -- the Local alone, or the peer's record after it; with the link down no TLV
-parts_plain : (up : Bool) (own : Information) (r : Record) → plain_information own ≡ true → record_fits r ≡ true
-    → plain_parts (parts_from (cond up (Is own) Nothing) (cond up (cleared_record r) Nothing)) ≡ true
+parts_plain : (up : Bool) (own : Information) (r : Option Information) → plain_information own ≡ true → record_fits r ≡ true
+    → plain_parts (parts_from (cond up (Some own) None) (cond up (cleared_record r) None)) ≡ true
 unfolding record_fits cleared_record
-parts_plain true own Absent o h = o
-parts_plain true own (Of i) o h = rw (o, cleared_plain i h)
+parts_plain true own None o h = o
+parts_plain true own (Some i) o h = rw (o, cleared_plain i h)
 parts_plain false own peer o h = refl
 
 -- ---- the frame

@@ -17,11 +17,10 @@ use Rattle.link_limit.specs.declared.Meter.{Meter}
 use Rattle.link_peer.specs.declared.Settings.{Settings}
 use Rattle.link_end.specs.declared.End.{End}
 use Rattle.link_end.specs.declared.News.{News}
-use Rattle.link.specs.declared.Outcome.{Outcome}
-use Rattle.link_end.specs.declared.Taken.{Taken}
+use Rattle.link_end.specs.Taking.{Taken}
 use Rattle.link_end.specs.Parts.{discovery_of, in_any}
 use Rattle.link_end.specs.Sending.{octet_changed, allowed, fault_flag_of, dues, sends, sent}
-use Rattle.link.specs.Outcomes.{concluded}
+use Rattle.link.specs.Outcomes.{Outcome, concluded}
 use Rattle.link_end.specs.Granting.{granted}
 use Rattle.link_end.specs.Ranges.{idle, ranged}
 use Rattle.theorems_reach.specs.Machine.{Request, start, stop, variables, notify, tell, respond, Input, Call, asked_of, outcome_of}

@@ -6,8 +6,7 @@ use Rattle.octets.proofs.Bools.{by_cond}
 use Rattle.link_end.specs.declared.End.{End}
 use Rattle.link_end.specs.declared.News.{News}
 use Rattle.link_end.specs.declared.News.TheVariants.{Nothing}
-use Rattle.link.specs.declared.Outcome.{Outcome}
-use Rattle.link.specs.Outcomes.{outcome, concluded}
+use Rattle.link.specs.Outcomes.{Outcome, outcome, concluded}
 use Rattle.link_end.specs.Sending.{sends}
 use Rattle.theorems_reach.specs.Machine.{Call, outcome_of, output_of}
 use Rattle.theorems_reach.proofs.Coming.{dues_after, Concludes, Comes, refuses, concludes, grants, comes}

@@ -13,7 +13,7 @@ use Rattle.link_end.specs.declared.End.{End}
 use Rattle.link_end.specs.Sending.{flags_to_send}
 use Rattle.link_end.specs.Granting.{decided, smaller_maximum}
 use Rattle.link_end.specs.Ranges.{ranged}
-use Rattle.link.specs.declared.Outcome.{Outcome}
+use Rattle.link.specs.Outcomes.{Outcome}
 use Rattle.link.specs.Requests.{octets_asked, responding, concluded_request, request_of}
 use Rattle.theorems_reach.specs.Machine.{request, respond, Call, outcome_of, frame_of}
 use Rattle.theorems_reach.proofs.Coming.{answer_is, Comes, refuses, concludes, grants, comes}

@@ -1,13 +1,12 @@
 -- A role is one that the settings allow: what a call makes of an end keeps it so, step by step.
+use Rattle.std.specs.Prelude.{Option, None, Some}
 use Prim.Native.Nat.{ℕ}
 use mathlib.Core.Path.{◌≡◌, refl}
 use mathlib.Core.Bool.{Bool, true, false, cond, ◌&&◌}
 use lib.Dec.{ltb, eqb}
+use Rattle.frame_body.specs.declared.Information.{Information}
 use Rattle.octets.proofs.Bools.{by_cond, and_l}
-use Rattle.frame_body.specs.declared.Held.{Held}
-use Rattle.frame_body.specs.declared.Held.TheVariants.{Nothing, Is}
 use Rattle.octets.specs.Bits.{bit}
-use Rattle.link_peer.specs.declared.Record.{Record}
 use Rattle.link_peer.specs.Peers.{peer_active, peer_loopback}
 use Rattle.link_loopback.specs.declared.Role.{Role}
 use Rattle.link_loopback.specs.declared.Role.TheVariants.{Idle, Asking, Holding, Ending, Looping}
@@ -17,13 +16,12 @@ use Rattle.link_discovery.specs.declared.Discovery.TheVariants.{Fault, ActiveSen
 use Rattle.link_discovery.specs.Standing.{role_in, is_lost}
 use Rattle.link_end.specs.declared.End.{End}
 use Rattle.link_end.specs.declared.Heard.{Heard}
-use Rattle.link_end.specs.declared.Taken.{Taken}
 use Rattle.link_end.specs.declared.Action.{Action}
 use Rattle.link_end.specs.declared.Action.TheVariants.{Inform, Notify, Command, Other}
 use Rattle.link_end.specs.declared.Report.{Report}
 use Rattle.link_end.specs.declared.Report.TheVariants.{LinkUp, LinkDown, DyingGasp, CriticalEvent}
 use Rattle.link_end.specs.Parts.{discovery_of, in_any, settled, faulted}
-use Rattle.link_end.specs.Taking.{known, learned, obeys_command, obeyed, role_after, acted, taken_up, taken}
+use Rattle.link_end.specs.Taking.{Taken, known, learned, obeys_command, obeyed, role_after, acted, taken_up, taken}
 use Rattle.link_end.specs.Ticking.{missed, ticked}
 use Rattle.link_end.specs.Reporting.{link_up, link_down, reported}
 use Rattle.theorems_reach.specs.Machine.{Input, Request, start, stop, variables, notify, tell, respond, asked_of}
@@ -54,17 +52,17 @@ module _ (c : ℕ) where
   after_actions_fits looping false Ending h = h
   after_actions_fits looping forward Looping h = h
 
-  after_local_fits : (l : Held) (r : Role) → Allowed r → Allowed (role_after_local l r)
+  after_local_fits : (l : Option Information) (r : Role) → Allowed r → Allowed (role_after_local l r)
   unfolding role_after_local
-  after_local_fits Nothing r h = h
-  after_local_fits (Is i) r h = after_actions_fits _ _ r h
+  after_local_fits None r h = h
+  after_local_fits (Some i) r h = after_actions_fits _ _ r h
 
   -- an enable that is obeyed finds the loopback bit
   enabled_bit : (one b x : Bool) → cond one (bit 2 c && b) x ≡ true → Allowed (cond one Looping Idle)
   enabled_bit true b x h = and_l (bit 2 c) b h
   enabled_bit false b x h = refl
 
-  commanded_fits : (k : ℕ) (higher : Bool) (held : Record) (r : Role) → Allowed r → Allowed (role_after_command k (obeys k higher c held r) r)
+  commanded_fits : (k : ℕ) (higher : Bool) (held : Option Information) (r : Role) → Allowed r → Allowed (role_after_command k (obeys k higher c held r) r)
   unfolding obeys
   commanded_fits k higher held r h =
       by_cond Allowed (cond (eqb k 1) (bit 2 c && (peer_active held && takes_enable r higher)) (is_looping r))
@@ -94,7 +92,7 @@ reported_fits (CriticalEvent on) e h = h
 
 -- ---- an accepted frame
 
-after_fits : (source : ℕ) (l : Held) (a : Action) (x : End) → Fits x
+after_fits : (source : ℕ) (l : Option Information) (a : Action) (x : End) → Fits x
     → role_fits x.settings.configuration (role_after l a (obeyed source a x) x.role) ≡ true
 unfolding role_after obeyed obeys_command
 after_fits source l Inform x h = after_local_fits x.settings.configuration l x.role h

@@ -14,8 +14,7 @@ use Rattle.octets.proofs.Bools.{never, and_l, and_r}
 use Rattle.link_end.specs.declared.Link.{Link}
 use Rattle.link_end.specs.declared.Peer.{Peer}
 use Rattle.link_end.specs.declared.End.{End}
-use Rattle.link_end.specs.declared.MaybeEnd.TheVariants.{Refused, Is}
-use Rattle.link_end.specs.Parts.{fresh_end, fresh_of, in_any}
+use Rattle.link_end.specs.Parts.{Is, Refused, fresh_end, fresh_of, in_any}
 use Rattle.link_end.specs.Sending.{allowed}
 use Rattle.link_end.specs.Ranges.{tests, record_fits, last_fits, idle, blank, besides, ranged}
 use Rattle.link_end.proofs.Ranging.{all_at}

@@ -11,17 +11,15 @@ use Rattle.link_limit.specs.Owing.{following}
 use Rattle.link_limit.specs.declared.Meter.{Meter}
 use Rattle.link_peer.specs.declared.Settings.{Settings}
 use Rattle.link_end.specs.declared.End.{End}
-use Rattle.link.specs.declared.Outcome.{Outcome}
 use Rattle.link_end.specs.declared.Report.{Report}
 use Rattle.link_end.specs.declared.Report.TheVariants.{LinkUp, LinkDown, DyingGasp, CriticalEvent}
 use Rattle.link_end.specs.declared.Heard.{Heard}
-use Rattle.link_end.specs.declared.Taken.{Taken}
 use Rattle.link_end.specs.Parts.{fresh_end, faulted, settled}
 use Rattle.link_end.specs.Sending.{dues, sends, sent}
-use Rattle.link.specs.Outcomes.{concluded}
+use Rattle.link.specs.Outcomes.{Outcome, concluded}
 use Rattle.link_end.specs.Ticking.{missed, ticked}
 use Rattle.link_end.specs.Reporting.{link_up, link_down, reported}
-use Rattle.link_end.specs.Taking.{learned, acted, taken}
+use Rattle.link_end.specs.Taking.{Taken, learned, acted, taken}
 use Rattle.link_end.specs.Granting.{granted}
 use Rattle.theorems_reach.specs.Machine.{Request, start, stop, variables, notify, tell, respond, Input, tick, report, receive, request, Call, asked_of, outcome_of}
 use Rattle.theorems_reach.specs.Runs.{after}

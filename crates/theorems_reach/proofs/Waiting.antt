@@ -17,7 +17,6 @@ use Rattle.link_limit.specs.Owing.{owes}
 use Rattle.link_limit.specs.declared.Meter.{Meter}
 use Rattle.link_peer.specs.declared.Settings.{Settings}
 use Rattle.link_end.specs.declared.End.{End}
-use Rattle.link.specs.declared.Outcome.{Outcome}
 use Rattle.link_end.specs.Parts.{discovery_of}
 use Rattle.link_end.specs.Sending.{fault_flag_of, flags_to_send, allowed, changed, dues, sends, sent}
 use Rattle.link_end.specs.Granting.{answer_to, decided}
@@ -26,7 +25,7 @@ use Rattle.link_end.specs.Ticking.{ticked, ticked_due}
 use Rattle.link_end.specs.Reporting.{reported_due}
 use Rattle.link_end.specs.Hearing.{said_by, heard_of}
 use Rattle.link_end.specs.Taking.{taken, taken_due}
-use Rattle.link.specs.Outcomes.{too_short}
+use Rattle.link.specs.Outcomes.{Outcome, too_short}
 use Rattle.link.specs.Ticks.{tick_of, tick_output}
 use Rattle.link.specs.Reports.{report_of}
 use Rattle.link.specs.Hearing.{concluded_heard, received, receive_of}

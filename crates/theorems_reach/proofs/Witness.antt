@@ -8,7 +8,8 @@ use mathlib.Core.Bool.{true}
 use lib.ListN.{take, drop, replicate}
 use Rattle.frame.specs.Flags.{flags_number}
 use Rattle.frame.specs.Frame.{Body, information, loopback, header_answer, body_answer, decode}
-use Rattle.frame_body.specs.Information.{local, information_at, information_step, information_walk}
+use Rattle.frame_body.specs.Information.{information_at, information_step, information_walk}
+use Rattle.frame_body.specs.declared.InformationPart.TheVariants.{Local as local}
 use Rattle.frame_tlvs.specs.Tlvs.{tlv_at, mark_at}
 use Rattle.frame_tlvs.specs.Walk.{walk}
 use Rattle.frame_body.specs.declared.Information.{Information}

@@ -5,7 +5,7 @@ use Rattle.frame.specs.Frame.{Body, information, Message}
 use Rattle.frame_writer.specs.Writing.{message_of, parts_of}
 use Rattle.link_end.specs.declared.End.{End}
 use Rattle.link_end.specs.declared.Report.{Report}
-use Rattle.link.specs.declared.Outcome.{Outcome}
+use Rattle.link.specs.Outcomes.{Outcome}
 use Rattle.link_end.specs.Sending.{flags_to_send, tlvs_to_send}
 use Rattle.link.specs.Ticks.{tick_of, tick_output}
 use Rattle.link.specs.Hearing.{receive_of, receive_output}

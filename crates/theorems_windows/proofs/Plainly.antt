@@ -1,5 +1,6 @@
 -- What arises of a proper watch makes a plain notification, and reaches its threshold: the notification request never answers 10 for
 -- it.
+use Rattle.std.specs.Prelude.{Option, None, Some}
 use Prim.Native.Nat.{ℕ, ◌^◌, ◌<◌, ◌≤◌}
 use mathlib.Core.Path.{◌≡◌, refl}
 use mathlib.Core.Bool.{Bool, true}
@@ -12,8 +13,6 @@ use Rattle.octets.proofs.Bools.{by_cond, and_l, and_r}
 use Rattle.frame_tlvs.specs.declared.Event.{Event}
 use Rattle.frame_tlvs.specs.Tlvs.{row}
 use Rattle.frame_writer.specs.Plain.{plain_event, most_events, plain_events}
-use Rattle.link_windows.specs.declared.Arisen.{Arisen}
-use Rattle.link_windows.specs.declared.Arisen.TheVariants.{Nothing, Is}
 use Rattle.link_windows.specs.declared.Watch.{Watch}
 use Rattle.link_windows.specs.declared.Window.{Window}
 use Rattle.link_windows.specs.Windows.{ends, summed, arises, advanced, arisen_in}
@@ -27,15 +26,15 @@ use Rattle.theorems_windows.proofs.Keeping.{added_most, proper_counted}
 
 -- ---- the events of a tick, by those of each window
 
-of_both : (test : Event → Bool) (f s : Arisen) → every test (event_in f) ≡ true → every test (event_in s) ≡ true → every test (events_in f s) ≡ true
-of_both test Nothing s p q = q
-of_both test (Is e) s p q = rw (and_l (test e) true p) q
+of_both : (test : Event → Bool) (f s : Option Event) → every test (event_in f) ≡ true → every test (event_in s) ≡ true → every test (events_in f s) ≡ true
+of_both test None s p q = q
+of_both test (Some e) s p q = rw (and_l (test e) true p) q
 
-pub at_most_two : (f s : Arisen) → length (events_in f s) ≤ 2
-at_most_two Nothing Nothing = omega arith
-at_most_two Nothing (Is e) = omega arith
-at_most_two (Is e) Nothing = omega arith
-at_most_two (Is e) (Is g) = omega arith
+pub at_most_two : (f s : Option Event) → length (events_in f s) ≤ 2
+at_most_two None None = omega arith
+at_most_two None (Some e) = omega arith
+at_most_two (Some e) None = omega arith
+at_most_two (Some e) (Some g) = omega arith
 
 -- ---- the plain form
 
@@ -51,7 +50,7 @@ module _ (w : Watch) (count : ℕ) (p : proper w ≡ true) where
   frames_plain =
       let set = frames_set w.frames.length w.frames.threshold kept.frames.set in
       let fits = next.frames.fits in
-      by_cond (λ (a : Arisen). every plain_event (event_in a) ≡ true) (arises w.frames count)
+      by_cond (λ (a : Option Event). every plain_event (event_in a) ≡ true) (arises w.frames count)
       (λ _.
       rw (
         lt-ltb (stamp_after w) (2 ^ 16) next.stamp,
@@ -70,7 +69,7 @@ module _ (w : Watch) (count : ℕ) (p : proper w ≡ true) where
       let set = seconds_set_lem w.seconds.length w.seconds.threshold s.set in
       let fits = next.seconds.fits in
       let errors : summed w.seconds (errored_by w count) < 2 ^ 16 = omega (arith, added_most w count) in
-      by_cond (λ (a : Arisen). every plain_event (event_in a) ≡ true) (arises w.seconds (errored_by w count))
+      by_cond (λ (a : Option Event). every plain_event (event_in a) ≡ true) (arises w.seconds (errored_by w count))
       (λ _.
       rw (
         lt-ltb (stamp_after w) (2 ^ 16) next.stamp,
@@ -96,7 +95,7 @@ module _ (w : Watch) (count : ℕ) (p : proper w ≡ true) where
 reaches_in : (kind stamp added : ℕ) (before after : Window) → after.threshold ≡ before.threshold → every reaches_own (event_in (arisen_in kind stamp before added after)) ≡ true
 unfolding arisen_in arises
 reaches_in kind stamp added before after same =
-    by_cond (λ (a : Arisen). every reaches_own (event_in a) ≡ true) (arises before added)
+    by_cond (λ (a : Option Event). every reaches_own (event_in a) ≡ true) (arises before added)
     (λ y. rw (same, and_r (ends before) (leb before.threshold (summed before added)) y)) (λ _. refl)
 
 pub arisen_reaches : (w : Watch) (count : ℕ) → every reaches_own (shown_by w count) ≡ true

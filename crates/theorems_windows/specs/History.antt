@@ -1,13 +1,11 @@
 -- The history of counts, and what it says by itself: "The totals must equal sums over the whole history of counts, not over what was
 -- sent." A history is the counts of bad frames of the accepted ticks since fresh, the oldest first; nothing here knows of a window
 -- that is kept.
-use Rattle.std.specs.Prelude.{ℕ, zero, suc, ◌+◌, ◌-◌, ◌*◌, ◌/◌, ◌%◌, ◌^◌, min, List, [], ◌∷◌, ◌++◌, Bool, cond, not, ◌&&◌, leb, eqb, length, take, drop}
+use Rattle.std.specs.Prelude.{ℕ, zero, suc, ◌+◌, ◌-◌, ◌*◌, ◌/◌, ◌%◌, ◌^◌, min, List, [], ◌∷◌, ◌++◌, Bool, cond, not, ◌&&◌, leb, eqb, length, take, drop, Option, None, Some}
 use Rattle.octets.specs.Bits.{bit_of}
 use Rattle.frame_tlvs.specs.Events.{event_of}
 use Rattle.frame_tlvs.specs.declared.Event.{Event}
 use Rattle.link_limit.specs.Limit.{second_ticks}
-use Rattle.link_windows.specs.declared.Arisen.{Arisen}
-use Rattle.link_windows.specs.declared.Arisen.TheVariants.{Nothing, Is}
 
 abbrev pub sum_of : List ℕ → ℕ
 sum_of [] = 0
@@ -68,10 +66,10 @@ abbrev pub stamp_of : List ℕ → ℕ
 stamp_of h = length h % 65536
 
 -- "errors too many for theirs show its largest value"; the totals "wrap at their field's width"
-unfoldable pub frames_arisen : (window threshold : ℕ) → List ℕ → Arisen
+unfoldable pub frames_arisen : (window threshold : ℕ) → List ℕ → Option Event
 frames_arisen window threshold h =
     cond (ends_at window h && reaches threshold (last_of window h))
-    (Is
+    (Some
     (event_of 2
     (stamp_of h
     ∷ window
@@ -80,13 +78,13 @@ frames_arisen window threshold h =
     ∷ sum_of h % 2 ^ 64
     ∷ reached_in window threshold h % 2 ^ 32
     ∷ [])))
-    Nothing
+    None
 
 -- the same over the seconds of the history; a window has a tenth as many seconds as ticks
-unfoldable pub seconds_arisen : (window threshold : ℕ) → List ℕ → Arisen
+unfoldable pub seconds_arisen : (window threshold : ℕ) → List ℕ → Option Event
 seconds_arisen window threshold h =
     cond (ends_at window h && reaches threshold (last_of (window / second_ticks) (seconds_of h)))
-    (Is
+    (Some
     (event_of 4
     (stamp_of h
     ∷ window
@@ -95,13 +93,13 @@ seconds_arisen window threshold h =
     ∷ sum_of (seconds_of h) % 2 ^ 32
     ∷ reached_in (window / second_ticks) threshold (seconds_of h) % 2 ^ 32
     ∷ [])))
-    Nothing
+    None
 
 -- ---- the events of a tick, errored frames first
 
-abbrev pub event_in : Arisen → List Event
-event_in Nothing = []
-event_in (Is e) = e ∷ []
+abbrev pub event_in : Option Event → List Event
+event_in None = []
+event_in (Some e) = e ∷ []
 
-abbrev pub events_in : (frames seconds : Arisen) → List Event
+abbrev pub events_in : (frames seconds : Option Event) → List Event
 events_in frames seconds = event_in frames ++ event_in seconds

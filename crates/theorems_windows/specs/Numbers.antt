@@ -1,7 +1,7 @@
 -- What a watch holds after some counts, and what the last of them shows: each by the history alone.
 use Rattle.std.specs.Prelude.{ℕ, ◌-◌, ◌/◌, ◌%◌, ◌^◌, min, ◌≡◌, List, length}
 use Rattle.link_limit.specs.Limit.{second_ticks}
-use Rattle.link_windows.specs.declared.Counted.{Counted}
+use Rattle.link_windows.specs.Watches.{Counted}
 use Rattle.link_windows.specs.declared.Watch.{Watch}
 use Rattle.link_windows.specs.declared.Window.{Window}
 use Rattle.theorems_windows.specs.History.{sum_of, present_of, reached_in, errored, seconds_of, stamp_of, frames_arisen, seconds_arisen}

@@ -4,14 +4,13 @@ use Rattle.oam_packing.specs.Octets.{state_length, packed_in}
 use Rattle.oam_packing.proofs.Joining.{parts_stored}
 use Rattle.oam_packing.proofs.pack.Goals as goal
 
-pub returns-then-state-ne-STATE_LENGTH : goal.returns-then-state-ne-STATE_LENGTH
+pub returns-then-state-eq-STATE_LENGTH : goal.returns-then-state-eq-STATE_LENGTH
 unfolding packed_in
-returns-then-state-ne-STATE_LENGTH c = rw (ne_eqb _ _ c.if-state-ne-STATE_LENGTH.true)
-
-pub returns : goal.returns
-unfolding packed_in
-returns c =
+returns-then-state-eq-STATE_LENGTH c =
     let a = c.args in
     let s = c.args.state.now in
-    let long = c.if-state-ne-STATE_LENGTH.false in
-    rw (eq-eqb (length s) state_length long, c.put_others.ensures, c.put_first.ensures) (parts_stored a.e s)
+    rw (eq-eqb (length s) state_length c.if-state-eq-STATE_LENGTH.true, c.put_parts.ensures) (parts_stored a.end.now s)
+
+pub returns-else-state-eq-STATE_LENGTH : goal.returns-else-state-eq-STATE_LENGTH
+unfolding packed_in
+returns-else-state-eq-STATE_LENGTH c = rw (ne_eqb _ _ c.if-state-eq-STATE_LENGTH.false)

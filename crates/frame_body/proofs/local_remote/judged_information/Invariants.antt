@@ -1,10 +1,12 @@
-use Prim.Native.Nat.{◌-◌}
-use lib.ListN.{length}
-use Rattle.frame_body.proofs.Judging.{Going}
+use Rattle.std.proofs.Common.{◌≡◌, ◌+◌, ◌≤◌, length}
+use Rattle.frame_tlvs.specs.Marks.{left}
+use Rattle.frame_body.specs.Judging.{judged_information}
+use Rattle.frame_body.proofs.Judging.{judged_marks}
 use Rattle.frame_body.proofs.local_remote.judged_information.Given as goal
 
-abbrev pub invariant-loop-next : goal.invariant-loop-next
-invariant-loop-next l = Going l.body l.at l.local l.remote l.skipped
-
-abbrev pub decreases-loop-next : goal.decreases-loop-next
-decreases-loop-next l = length l.body - l.at
+abbrev pub invariant-loop-mark : goal.invariant-loop-mark
+invariant-loop-mark l =
+    (goal.iterator-loop-mark).can_next l.mark-iterator
+    × (goal.iterator-loop-mark).is_finite l.mark-iterator
+    × (judged_marks l.body l.local l.remote l.skipped (left l.mark-iterator) ≡ judged_information l.body)
+    × (l.skipped + length (left l.mark-iterator) ≤ length l.body)

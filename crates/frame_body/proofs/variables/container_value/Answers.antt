@@ -1,42 +1,26 @@
-use Prim.Native.Nat.{◌-◌}
-use mathlib.Core.Path.{◌≡◌, sym, ◌∙◌, subst}
-use native.Mathlib.Omega.{arith}
-use lib.ListN.{length}
-use Rattle.frame_body.specs.Variables.{container_step, container_value}
-use Rattle.frame_body.specs.declared.ContainerStep.TheVariants.{Value}
+use Rattle.std.proofs.Common.{◌≡◌, ◌-◌, length, subst, sym, arith}
+use Rattle.frame_body.specs.Variables.{Value, container_step, container_value}
 use Rattle.frame_body.proofs.Wholes.{Contained, container_within}
 use Rattle.frame_body.proofs.variables.container_value.Goals as goal
 use Rattle.frame_body.proofs.variables.container_value.Goals.{In-Value}
 
--- in the arm of a value: what stands there, and where it ends
-met : (c : In-Value) → container_step c.args.body.now c.args.at ≡ Value c.in-Value.field-0 c.in-Value.width c.in-Value.next
-met c = sym c.container_step.ensures ∙ c.in-Value.is
+-- what stands at the octet, and where it ends
+met : (c : In-Value) → Value c.in-Some-Ok.container.part.descriptor c.in-Value.width c.in-Some-Ok.container.end ≡ container_step c.args.body.now c.args.at
+met c = rw (c.in-Some-Ok.is, c.in-Some-Ok.field-0-is, c.in-Value.is) at c.container_step.ensures.found
 
-within : (c : In-Value) → Contained c.args.at (length c.args.body.now) (Value c.in-Value.field-0 c.in-Value.width c.in-Value.next)
-within c =
-    let a = c.args in
-    subst (Contained a.at (length a.body.now)) (met c) (container_within a.body.now a.at)
+within : (c : In-Value) → Contained c.args.at (length c.args.body.now) (Value c.in-Some-Ok.container.part.descriptor c.in-Value.width c.in-Some-Ok.container.end)
+within c = let s = c.args.body.now in subst (Contained c.args.at (length s)) (sym (met c)) (container_within s c.args.at)
 
 pub overflow_sub-result : goal.overflow_sub-result
-unfolding container_value
-overflow_sub-result c = omega (arith, within c)
+overflow_sub-result c = omega (arith, within (goal.at.overflow_sub-result c).In-Value)
 
-pub slice_bounds-result-end-in-Value : goal.slice_bounds-result-end-in-Value
-unfolding container_value
-slice_bounds-result-end-in-Value c = omega (arith, within c)
+pub slice_bounds-result-end-2 : goal.slice_bounds-result-end-2
+slice_bounds-result-end-2 c = omega (arith, within (goal.at.slice_bounds-result-end-2 c).In-Value)
 
-pub returns-in-End : goal.returns-in-End
+pub returns : goal.returns
 unfolding container_value
-returns-in-End c = rw (sym c.container_step.ensures ∙ c.in-End.is)
-
-pub returns-in-Broken : goal.returns-in-Broken
-unfolding container_value
-returns-in-Broken c = rw (sym c.container_step.ensures ∙ c.in-Broken.is)
-
-pub returns-in-Value : goal.returns-in-Value
-unfolding container_value
-returns-in-Value c = let e : c.in-Value.next - (c.in-Value.next - c.in-Value.width) ≡ c.in-Value.width = omega (arith, within (goal.at.returns-in-Value c).In-Value) in rw (met (goal.at.returns-in-Value c).In-Value, e)
-
-pub returns-in-Indication : goal.returns-in-Indication
-unfolding container_value
-returns-in-Indication c = rw (sym c.container_step.ensures ∙ c.in-Indication.is)
+returns c =
+    let at = (goal.at.returns c).In-Value in
+    let n = c.in-Some-Ok.container.end in
+    let e : n - (n - c.in-Value.width) ≡ c.in-Value.width = omega (arith, within at) in
+    rw (← met at, e)

@@ -1,11 +1,9 @@
-use Prim.Native.Nat.{◌-◌, ◌*◌}
-use mathlib.Core.Path.{◌≡◌}
-use lib.ListN.{drop}
+use Rattle.std.proofs.Common.{◌≡◌, length}
 use Rattle.frame_variables.specs.Attributes.{distinct}
 use Rattle.frame_variables.proofs.attributes.distinct.Given as goal
 
-abbrev pub invariant-loop-i : goal.invariant-loop-i
-invariant-loop-i l = distinct (drop (2 * l.i) l.attributes) ≡ distinct l.attributes
+abbrev pub invariant-loop-left : goal.invariant-loop-left
+invariant-loop-left l = distinct l.left ≡ distinct l.attributes
 
-abbrev pub decreases-loop-i : goal.decreases-loop-i
-decreases-loop-i l = l.pairs - l.i
+abbrev pub decreases-loop-left : goal.decreases-loop-left
+decreases-loop-left l = length l.left

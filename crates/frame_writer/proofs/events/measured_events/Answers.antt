@@ -1,29 +1,50 @@
-use mathlib.Core.Path.{sym, ◌∙◌}
+use mathlib.Core.Path.{◌≡◌, sym, ap, ◌∙◌}
 use native.Mathlib.Nat.{sub-zero}
 use native.Mathlib.Omega.{arith}
-use borrow.Author.Tests.{eq-eqb, ne_eqb}
-use Rattle.frame_writer.proofs.Sevens.{counted, next_summed}
+use Prim.Native.Nat.{◌%◌}
+use Rattle.octets.specs.Tests.{between}
+use Rattle.frame_writer.specs.Plain.{most_events}
+use lib.ListN.{length}
+use Rattle.std.proofs.lemmas.Bool.Decides.{nat_tests}
+use Rattle.frame_writer.proofs.Sevens.{uneven, even, seven_is, none_summed, next_summed, event_short}
 use Rattle.frame_writer.proofs.events.measured_events.Goals as goal
 
-pub loop-i-init : goal.loop-i-init
-loop-i-init c = let n = counted c.args.events.now in
-    rw (c.event_count-count.ensures, sub-zero) (omega arith, n.most, n.within, omega arith, n.measured)
+pub returns-then-not-is_empty : goal.returns-then-not-is_empty
+returns-then-not-is_empty c = rw (uneven c.args.events.now (λ z. absurd (grind (arith, nat_tests))))
 
-pub returns-then-octets-eq0 : goal.returns-then-octets-eq0
-returns-then-octets-eq0 c = let l = c.loop-i in
-    let m = c.measured_seven-octets in
-    sym
-    (l.invariant.4
-    ∙ (next_summed c.args.events.now _ l.i c.loop-i-test.true l.invariant.2 l.sum m.result m.ensures).0
-    ∙ rw (eq-eqb m.result 0 c.if-octets-eq0.true))
+pub returns-then-not-is_count : goal.returns-then-not-is_count
+returns-then-not-is_count c =
+    let z : length c.args.events.now % 7 ≡ 0 = grind (arith, nat_tests) in
+    rw (even c.args.events.now z (sym c.if-not-is_count.true ∙ c.is_count.ensures ∙ ap (between 1 most_events) c.as_chunks.ensures.front_len))
 
-pub overflow_add-sum : goal.overflow_add-sum
-overflow_add-sum c = let l = c.loop-i in
-    let m = c.measured_seven-octets in
-    omega (arith, (next_summed c.args.events.now _ l.i c.loop-i-test.true l.invariant.2 l.sum m.result m.ensures).1, l.invariant.3, l.invariant.0, l.invariant.1)
+pub loop-event-init : goal.loop-event-init
+loop-event-init c =
+    let z : length c.args.events.now % 7 ≡ 0 = grind (arith, nat_tests) in
+    let all = even c.args.events.now z (sym c.if-not-is_count.false ∙ c.is_count.ensures ∙ ap (between 1 most_events) c.as_chunks.ensures.front_len) in
+    record { some = omega arith; few = omega arith; measured = rw sub-zero all }
 
-pub loop-i-preserved : goal.loop-i-preserved
-loop-i-preserved c = let l = c.loop-i in
-    let m = c.measured_seven-octets in
-    let n = next_summed c.args.events.now _ l.i c.loop-i-test.true l.invariant.2 l.sum m.result m.ensures in
-    (omega (arith, c.loop-i-test.true), l.invariant.1, l.invariant.2, omega (arith, n.1, l.invariant.3), l.invariant.4 ∙ n.0 ∙ rw (ne_eqb m.result 0 c.if-octets-eq0.false))
+pub returns-then-not-plain_seven : goal.returns-then-not-plain_seven
+returns-then-not-plain_seven c =
+    let l = c.loop-event in
+    let f = sym c.plain_seven.ensures ∙ c.if-not-plain_seven.true in
+    rw (l.invariant.measured ∙ none_summed c.args.events.now c.as_chunks.ensures.front l.event-index (omega arith) l.octets f)
+
+pub overflow_cast-event : goal.overflow_cast-event
+overflow_cast-event c = omega (arith, (seven_is _ (sym c.plain_seven.ensures ∙ c.if-not-plain_seven.false)).most)
+
+pub overflow_add-octets : goal.overflow_add-octets
+overflow_add-octets c =
+    let t = sym c.plain_seven.ensures ∙ c.if-not-plain_seven.false in
+    omega (arith, c.event_length-octets.ensures, event_short c.args.events.now c.as_chunks.ensures.front c.loop-event.event-index (omega arith) t)
+
+pub loop-event-preserved : goal.loop-event-preserved
+loop-event-preserved c =
+    let vs = c.args.events.now in
+    let l = c.loop-event in
+    let t = sym c.plain_seven.ensures ∙ c.if-not-plain_seven.false in
+    let short = event_short vs c.as_chunks.ensures.front l.event-index (omega arith) t in
+    record {
+      some = omega (arith, c.event_length-octets.ensures, short);
+      few = omega (arith, c.event_length-octets.ensures, short);
+      measured = l.invariant.measured ∙ next_summed vs c.as_chunks.ensures.front l.event-index (omega arith) l.octets t ∙ rw c.event_length-octets.ensures;
+    }

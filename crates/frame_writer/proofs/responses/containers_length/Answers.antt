@@ -1,33 +1,18 @@
-use mathlib.Core.Path.{sym, subst}
 use native.Mathlib.Omega.{arith}
-use Rattle.frame_writer.proofs.Containing.{Measures, measured_none, measured_on}
+use Rattle.frame_writer.proofs.Containing.{measured_none, measured_on, measured_past}
 use Rattle.frame_writer.proofs.responses.containers_length.Goals as goal
-use Rattle.frame_writer.proofs.responses.containers_length.Goals.{After-container_step}
 
--- what the turn comes to
-come : (c : After-container_step) → Measures c.args.containers.now c.loop-next.at c.container_step.result
-come c =
-    let s = c.args.containers.now in
-    let l = c.loop-next in
-    subst (Measures s l.at) (sym c.container_step.ensures) (measured_on s l.at l.invariant)
+pub loop-step-init : goal.loop-step-init
+loop-step-init c = measured_none c.args.containers.now
 
-pub loop-next-init : goal.loop-next-init
-loop-next-init c = measured_none c.args.containers.now
+pub returns-in_default-step : goal.returns-in_default-step
+returns-in_default-step c = measured_on _ _ c.loop-step.invariant (rw c.in_default-step.is at c.in-Some.ensures.found)
 
-pub returns-in-End : goal.returns-in-End
-returns-in-End c = subst (Measures _ c.loop-next.at) c.in-End.is (come (goal.at.returns-in-End c).After-container_step)
+pub loop-step-smaller : goal.loop-step-smaller
+loop-step-smaller c = omega (arith, measured_past _ _ c.in-Ok.container c.loop-step.invariant (rw c.in-Ok.is at c.in-Some.ensures.found))
 
-pub returns-in-Broken : goal.returns-in-Broken
-returns-in-Broken c = subst (Measures _ c.loop-next.at) c.in-Broken.is (come (goal.at.returns-in-Broken c).After-container_step)
+pub loop-step-preserved : goal.loop-step-preserved
+loop-step-preserved c = (measured_past _ _ c.in-Ok.container c.loop-step.invariant (rw c.in-Ok.is at c.in-Some.ensures.found)).2
 
-pub loop-next-smaller-in-Value : goal.loop-next-smaller-in-Value
-loop-next-smaller-in-Value c = omega (arith, subst (Measures _ c.loop-next.at) c.in-Value.is (come (goal.at.loop-next-smaller-in-Value c).After-container_step))
-
-pub loop-next-preserved-in-Value : goal.loop-next-preserved-in-Value
-loop-next-preserved-in-Value c = (subst (Measures _ c.loop-next.at) c.in-Value.is (come (goal.at.loop-next-preserved-in-Value c).After-container_step)).2
-
-pub loop-next-smaller : goal.loop-next-smaller
-loop-next-smaller c = omega (arith, subst (Measures _ c.loop-next.at) c.in-Indication.is (come (goal.at.loop-next-smaller c).After-container_step))
-
-pub loop-next-preserved : goal.loop-next-preserved
-loop-next-preserved c = (subst (Measures _ c.loop-next.at) c.in-Indication.is (come (goal.at.loop-next-preserved c).After-container_step)).2
+pub returns : goal.returns
+returns c = measured_on _ _ c.loop-step.invariant c.in_default.ensures.found

@@ -3,8 +3,8 @@ use lib.ListN.{length}
 use Rattle.frame_writer.proofs.Containing.{Measured}
 use Rattle.frame_writer.proofs.responses.containers_length.Given as goal
 
-abbrev pub invariant-loop-next : goal.invariant-loop-next
-invariant-loop-next l = Measured l.containers l.at
+abbrev pub invariant-loop-step : goal.invariant-loop-step
+invariant-loop-step l = Measured l.containers l.at
 
-abbrev pub decreases-loop-next : goal.decreases-loop-next
-decreases-loop-next l = length l.containers - l.at
+abbrev pub decreases-loop-step : goal.decreases-loop-step
+decreases-loop-step l = length l.containers - l.at

@@ -1,5 +1,5 @@
 use Prim.Native.Nat.{ℕ}
-use mathlib.Core.Path.{◌≡◌, refl, sym}
+use mathlib.Core.Path.{◌≡◌, refl, sym, ◌∙◌}
 use mathlib.Core.List.{List}
 use mathlib.Core.Bool.{Bool, ◌&&◌, and-true, and-false}
 use borrow.Author.Tests.{eqb-true, le-leb, lt-leb}
@@ -25,10 +25,13 @@ told s o few n e m =
     (λ t. rw (t, containers_fit s o, eqb-true l (length s) t) (and-true f))
     (λ u. rw u (and-false f)))
 
-pub returns-then-containers-gt-MOST_CONTAINERS_OCTETS : goal.returns-then-containers-gt-MOST_CONTAINERS_OCTETS
-returns-then-containers-gt-MOST_CONTAINERS_OCTETS c = let s = c.args.containers.now in
-    told s (λ i. (c.type_inv.containers i).fits) _ _ (sym (lt-leb (length s) most_containers_octets c.if-containers-gt-MOST_CONTAINERS_OCTETS.true)) refl
+pub returns-then-containers-le-MOST_CONTAINERS_OCTETS : goal.returns-then-containers-le-MOST_CONTAINERS_OCTETS
+returns-then-containers-le-MOST_CONTAINERS_OCTETS c =
+    let s = c.args.containers.now in
+    told s (λ i. (c.type_inv.containers i).fits) _ _ (sym (le-leb (length s) most_containers_octets c.if-containers-le-MOST_CONTAINERS_OCTETS.true)) c.containers_length.ensures
 
-pub returns : goal.returns
-returns c = let s = c.args.containers.now in
-    told s (λ i. (c.type_inv.containers i).fits) _ _ (sym (le-leb (length s) most_containers_octets c.if-containers-gt-MOST_CONTAINERS_OCTETS.false)) c.containers_length.ensures
+pub returns-else-containers-le-MOST_CONTAINERS_OCTETS : goal.returns-else-containers-le-MOST_CONTAINERS_OCTETS
+returns-else-containers-le-MOST_CONTAINERS_OCTETS c =
+    let s = c.args.containers.now in
+    let many = lt-leb (length s) most_containers_octets c.if-containers-le-MOST_CONTAINERS_OCTETS.false in
+    many ∙ told s (λ i. (c.type_inv.containers i).fits) _ _ (sym many) refl

@@ -1,4 +1,4 @@
-use Prim.Native.Nat.{◌+◌, ◌-◌, ◌≤◌}
+use Prim.Native.Nat.{◌+◌, ◌≤◌}
 use mathlib.Core.Path.{◌≡◌}
 use lib.ListN.{length, drop}
 use lib.Seq.{sets}
@@ -6,10 +6,6 @@ use Rattle.octets.specs.Octets.{total, octs}
 use Rattle.frame_writer.proofs.storing.put_fields.Given as goal
 
 abbrev pub invariant-loop-i : goal.invariant-loop-i
-invariant-loop-i l = (l.i ≤ length l.widths)
-    × (length l.out ≡ length l.initial.out)
+invariant-loop-i l = (length l.out ≡ length l.initial.out)
     × (l.position + total (drop l.i l.widths) ≤ length l.out)
     × (sets l.initial.out l.at (octs l.widths l.values) ≡ sets l.out l.position (octs (drop l.i l.widths) (drop l.i l.values)))
-
-abbrev pub decreases-loop-i : goal.decreases-loop-i
-decreases-loop-i l = length l.widths - l.i

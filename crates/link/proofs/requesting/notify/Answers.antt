@@ -1,40 +1,35 @@
-use mathlib.Core.Path.{◌≡◌, refl, ap, ◌∙◌}
-use lib.ListN.{length}
-use Rattle.link_peer.specs.declared.Settings.{Settings}
-use Rattle.link.proofs.Asking.{grants, refuses, requests, decided_source}
-use Rattle.frame_writer.specs.Plain.{sized}
+use Rattle.std.proofs.Common.{rules, length, ◌≡◌, ap, ◌∙◌}
+use Rattle.frame_writer.specs.Plain.{sized, some_octets}
 use Rattle.frame.specs.Frame.{notification}
 use Rattle.frame_writer.specs.Writing.{events_of}
 use Rattle.link_end.specs.declared.Own.{Own}
-use Rattle.link_end.specs.Granting.{granted_number}
+use Rattle.link_end.specs.Granting.{as_decided, octets_in, granted_number}
 use Rattle.link.specs.Requests.{notifying, decided_request}
+use Rattle.link.proofs.Asking.{refuses, grants, octets_some}
 use Rattle.link.proofs.requesting.notify.Goals as goal
-use Rattle.link.proofs.requesting.notify.Goals.{After-grant_number-decided}
+use Rattle.link.proofs.requesting.notify.Goals.{After-grant_number}
 
 -- it is decided as the request is
-decides : (c : After-grant_number-decided) →
+decides : (c : After-grant_number) →
     let a = c.args in
-    c.grant_number-decided.result ≡ decided_request (notifying a.events.now a.e) (length a.out.now) a.e
+    as_decided c.grant_number.new.self c.grant_number.result ≡ decided_request (notifying a.events.now a.end.now) (length a.out.now) a.end.now
 unfolding granted_number
 decides c =
     let a = c.args in
-    let octets = c.notification_octets-octets.ensures ∙ ap (λ (o : Own). sized (notification o.number (events_of a.events.now))) c.own-own.ensures in
-    c.grant_number-decided.ensures ∙ (λ i. granted_number (octets i) (length a.out.now) a.e)
+    let asked = c.notification_octets-octets.ensures ∙ ap (λ (o : Own). some_octets (sized (notification o.number (events_of a.events.now)))) c.own-number.ensures in
+    let octets = ap octets_in asked ∙ octets_some _ in
+    c.grant_number.ensures ∙ (λ i. granted_number (octets i) (length a.out.now) a.end.now)
 
-pub returns-then-decided-eq0 : goal.returns-then-decided-eq0
-returns-then-decided-eq0 c = let a = c.args in
-    let q = notifying a.events.now a.e in
-    let d = c.grant_number-decided.result in
-    let is_so = decides (goal.at.returns-then-decided-eq0 c).After-grant_number-decided in
-    let source = ap (λ (s : Settings). s.source) c.settings-settings.ensures ∙ decided_source q a.e a.out.now d is_so refl in
-    requests q a.e a.out.now d is_so _ _
-    (grants d q.body a.out.now c.if-decided-eq0.true
-    c.settings-settings.result.source c.flags_to_send.result c.write_notification-written.result _ _
-    source c.flags_to_send.ensures (rw (← c.own-own.ensures) c.write_notification-written.ensures) c.send.ensures)
+pub returns-in_err-grant_number : goal.returns-in_err-grant_number
+returns-in_err-grant_number c =
+    let a = c.args in
+    let is_so = decides (goal.at.returns-in_err-grant_number c).After-grant_number in
+    let h = refuses (notifying a.events.now a.end.now) a.end.now c.grant_number.new.self a.out.now c.grant_number.result is_so _ c.in_err-grant_number.was in
+    search rules
 
 pub returns : goal.returns
-returns c = let a = c.args in
-    let q = notifying a.events.now a.e in
-    let d = c.grant_number-decided.result in
-    let is_so = decides (goal.at.returns c).After-grant_number-decided in
-    requests q a.e a.out.now d is_so _ _ (refuses d q.body a.out.now c.if-decided-eq0.false _ c.refuse.ensures)
+returns c =
+    let a = c.args in
+    let is_so = decides (goal.at.returns c).After-grant_number in
+    grants (notifying a.events.now a.end.now) a.end.now c.grant_number.new.self a.out.now c.grant_number.result is_so c.in_ok-grant_number.was
+    c.sender.result c.write_notification.result c.sent.result c.write_notification.new.out c.sender.ensures (rw (← c.own-number.ensures) c.write_notification.ensures) (c.sent.ensures _)

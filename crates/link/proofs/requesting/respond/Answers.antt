@@ -1,45 +1,43 @@
-use Prim.Native.Nat.{ℕ}
-use mathlib.Core.Path.{◌≡◌, refl, ap, ◌∙◌}
-use lib.ListN.{length}
+use Rattle.std.proofs.Common.{rules, ℕ, length, ◌≡◌, ap, ◌∙◌}
+use Rattle.frame_writer.specs.Plain.{some_octets}
 use Rattle.frame_writer.specs.Responses.{needed_octets}
 use Rattle.frame_writer.proofs.Answering.{needed_same}
-use Rattle.link_peer.specs.declared.Settings.{Settings}
-use Rattle.link_end.specs.Granting.{response_allowed, decided, granted_response, smaller_maximum}
-use Rattle.link.specs.Requests.{responding, octets_asked, decided_request}
-use Rattle.link.proofs.Asking.{grants, refuses, requests, unmeasured, decided_formed, decided_source, formed_writing}
+use Rattle.link_end.specs.Granting.{as_decided, octets_in, response_allowed, decided, granted_response, smaller_maximum}
+use Rattle.link.specs.Requests.{octets_asked}
+use Rattle.link.specs.Requests.{responding, decided_request}
+use Rattle.link.proofs.Asking.{refuses, grants, octets_some, unmeasured, decided_formed, formed_writing}
 use Rattle.link.proofs.requesting.respond.Goals as goal
-use Rattle.link.proofs.requesting.respond.Goals.{After-grant_response-decided}
+use Rattle.link.proofs.requesting.respond.Goals.{After-grant_response}
 
 -- it is decided as the request is
-decides : (c : After-grant_response-decided) →
+decides : (c : After-grant_response) →
     let a = c.args in
-    c.grant_response-decided.result ≡ decided_request (responding a.attributes.now a.values.now a.descriptors.now a.e) (length a.out.now) a.e
+    as_decided c.grant_response.new.self c.grant_response.result ≡ decided_request (responding a.attributes.now a.values.now a.descriptors.now a.end.now) (length a.out.now) a.end.now
 unfolding granted_response
 decides c =
     let a = c.args in
+    let e = a.end.now in
     let lent = length a.out.now in
-    let size = smaller_maximum a.e in
-    let needed = c.needed_octets-needed.ensures ∙ ap (λ (n : ℕ). needed_octets lent n a.attributes.now a.values.now a.descriptors.now) c.smaller_maximum-size.ensures in
+    let size = smaller_maximum e in
+    let answers = c.needed_octets-needed.ensures ∙ ap (λ (n : ℕ). some_octets (needed_octets lent n a.attributes.now a.values.now a.descriptors.now)) c.smaller_maximum-size.ensures in
+    let needed = ap octets_in answers ∙ octets_some _ in
     let same = needed_same lent size a.attributes.now a.values.now a.descriptors.now in
-    let asked = octets_asked (responding a.attributes.now a.values.now a.descriptors.now a.e) in
-    c.grant_response-decided.ensures
-    ∙ (λ i. granted_response (needed i) lent a.e)
-    ∙ ap (λ (n : ℕ). decided n a.e a.e) (unmeasured (needed_octets lent size a.attributes.now a.values.now a.descriptors.now) asked (response_allowed a.e) lent a.e same.some same.held)
+    let asked = octets_asked (responding a.attributes.now a.values.now a.descriptors.now e) in
+    c.grant_response.ensures
+    ∙ (λ i. granted_response (needed i) lent e)
+    ∙ ap (λ (n : ℕ). decided n e e) (unmeasured (needed_octets lent size a.attributes.now a.values.now a.descriptors.now) asked (response_allowed e) lent e same.some same.held)
 
-pub returns-then-decided-eq0 : goal.returns-then-decided-eq0
-returns-then-decided-eq0 c = let a = c.args in
-    let q = responding a.attributes.now a.values.now a.descriptors.now a.e in
-    let d = c.grant_response-decided.result in
-    let none = c.if-decided-eq0.true in
-    let formed = decided_formed q a.e a.out.now d (decides (goal.at.returns-then-decided-eq0 c).After-grant_response-decided) none in
-    let source = ap (λ (s : Settings). s.source) c.settings-settings.ensures ∙ decided_source q a.e a.out.now d (decides (goal.at.returns-then-decided-eq0 c).After-grant_response-decided) refl in
-    requests q a.e a.out.now d (decides (goal.at.returns-then-decided-eq0 c).After-grant_response-decided) _ _
-    (grants d q.body a.out.now none
-    c.settings-settings.result.source c.flags_to_send.result c.write_answers-written.result _ _
-    source c.flags_to_send.ensures (formed_writing formed (rw (← c.smaller_maximum-size.ensures) c.write_answers-written.ensures)) c.send.ensures)
+pub returns-in_err-grant_response : goal.returns-in_err-grant_response
+returns-in_err-grant_response c =
+    let a = c.args in
+    let is_so = decides (goal.at.returns-in_err-grant_response c).After-grant_response in
+    let h = refuses (responding a.attributes.now a.values.now a.descriptors.now a.end.now) a.end.now c.grant_response.new.self a.out.now c.grant_response.result is_so _ c.in_err-grant_response.was in
+    search rules
 
 pub returns : goal.returns
-returns c = let a = c.args in
-    let q = responding a.attributes.now a.values.now a.descriptors.now a.e in
-    let d = c.grant_response-decided.result in
-    requests q a.e a.out.now d (decides (goal.at.returns c).After-grant_response-decided) _ _ (refuses d q.body a.out.now c.if-decided-eq0.false _ c.refuse.ensures)
+returns c =
+    let a = c.args in
+    let is_so = decides (goal.at.returns c).After-grant_response in
+    let formed = decided_formed (responding a.attributes.now a.values.now a.descriptors.now a.end.now) a.end.now c.grant_response.new.self a.out.now c.grant_response.result is_so c.in_ok-grant_response.was in
+    grants (responding a.attributes.now a.values.now a.descriptors.now a.end.now) a.end.now c.grant_response.new.self a.out.now c.grant_response.result is_so c.in_ok-grant_response.was
+    c.sender.result c.write_answers.result c.sent.result c.write_answers.new.out c.sender.ensures (formed_writing formed (rw (← c.smaller_maximum-size.ensures) c.write_answers.ensures)) (c.sent.ensures _)

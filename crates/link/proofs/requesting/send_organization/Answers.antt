@@ -1,36 +1,31 @@
-use mathlib.Core.Path.{◌≡◌, refl, ap, ◌∙◌}
-use mathlib.Core.Bool.{true}
-use lib.ListN.{length}
-use Rattle.link_peer.specs.declared.Settings.{Settings}
-use Rattle.link.proofs.Asking.{grants, refuses, requests, decided_source}
-use Rattle.link_end.specs.Granting.{granted_frame}
+use Rattle.std.proofs.Common.{rules, length, ◌≡◌, ap, ◌∙◌}
+use Rattle.std.proofs.Common.{true}
+use Rattle.link_end.specs.Granting.{as_decided, octets_in, granted_frame}
 use Rattle.link.specs.Requests.{telling, decided_request}
+use Rattle.link.proofs.Asking.{refuses, grants, octets_some}
 use Rattle.link.proofs.requesting.send_organization.Goals as goal
-use Rattle.link.proofs.requesting.send_organization.Goals.{After-grant_frame-decided}
+use Rattle.link.proofs.requesting.send_organization.Goals.{After-grant_frame}
 
 -- it is decided as the request is
-decides : (c : After-grant_frame-decided) →
+decides : (c : After-grant_frame) →
     let a = c.args in
-    c.grant_frame-decided.result ≡ decided_request (telling a.oui a.octets.now a.e) (length a.out.now) a.e
+    as_decided c.grant_frame.new.self c.grant_frame.result ≡ decided_request (telling a.oui a.octets.now a.end.now) (length a.out.now) a.end.now
 unfolding granted_frame
 decides c =
     let a = c.args in
-    c.grant_frame-decided.ensures ∙ (λ i. granted_frame (c.organization_octets-size.ensures i) true (length a.out.now) a.e)
+    let octets = ap octets_in c.organization_octets-size.ensures ∙ octets_some _ in
+    c.grant_frame.ensures ∙ (λ i. granted_frame (octets i) true (length a.out.now) a.end.now)
 
-pub returns-then-decided-eq0 : goal.returns-then-decided-eq0
-returns-then-decided-eq0 c = let a = c.args in
-    let q = telling a.oui a.octets.now a.e in
-    let d = c.grant_frame-decided.result in
-    let is_so = decides (goal.at.returns-then-decided-eq0 c).After-grant_frame-decided in
-    let source = ap (λ (s : Settings). s.source) c.settings-settings.ensures ∙ decided_source q a.e a.out.now d is_so refl in
-    requests q a.e a.out.now d is_so _ _
-    (grants d q.body a.out.now c.if-decided-eq0.true
-    c.settings-settings.result.source c.flags_to_send.result c.write_organization-written.result _ _
-    source c.flags_to_send.ensures c.write_organization-written.ensures c.send.ensures)
+pub returns-in_err-grant_frame : goal.returns-in_err-grant_frame
+returns-in_err-grant_frame c =
+    let a = c.args in
+    let is_so = decides (goal.at.returns-in_err-grant_frame c).After-grant_frame in
+    let h = refuses (telling a.oui a.octets.now a.end.now) a.end.now c.grant_frame.new.self a.out.now c.grant_frame.result is_so _ c.in_err-grant_frame.was in
+    search rules
 
 pub returns : goal.returns
-returns c = let a = c.args in
-    let q = telling a.oui a.octets.now a.e in
-    let d = c.grant_frame-decided.result in
-    let is_so = decides (goal.at.returns c).After-grant_frame-decided in
-    requests q a.e a.out.now d is_so _ _ (refuses d q.body a.out.now c.if-decided-eq0.false _ c.refuse.ensures)
+returns c =
+    let a = c.args in
+    let is_so = decides (goal.at.returns c).After-grant_frame in
+    grants (telling a.oui a.octets.now a.end.now) a.end.now c.grant_frame.new.self a.out.now c.grant_frame.result is_so c.in_ok-grant_frame.was
+    c.sender.result _ c.sent.result _ c.sender.ensures c.write_organization.ensures (c.sent.ensures _)

@@ -17,16 +17,16 @@ returns c =
     let a = c.args in
     let l = c.args.lent.now in
     let s = c.show-answer.ensures in
-    let xs = numbers_of a.e in
-    let place = c.number.ensures ∙ ap standing_number c.discovery_of.ensures in
+    let xs = numbers_of a.end.now in
+    let place = c.from.ensures ∙ c.number.ensures ∙ ap standing_number c.discovery.ensures in
     let digits = c.intervals.ensures ∙ ap (λ (m : Meter). m.intervals) c.meter.ensures in
-    let ys : List ℕ = c.number.result ∷ c.intervals.result ∷ [] in
-    let zs = watch_shown a.watch in
+    let ys : List ℕ = c.from.result ∷ c.intervals.result ∷ [] in
+    let zs = watch_shown a.watch.now in
     record {
       answers = s.answers;
       stored =
           c.show_watch.ensures
-          ∙ ap (λ (m : List ℕ). sets (sets m 27 ys) 29 zs) (s.stored ∙ ap (λ (ns : List ℕ). sets l 0 ns) c.numbers_of-numbers.ensures)
-          ∙ thrice_stored l xs ys zs 27 29 (numbers_long a.e) refl
+          ∙ ap (λ (m : List ℕ). sets (sets m 27 ys) 29 zs) (s.stored ∙ ap (λ (ns : List ℕ). sets l 0 ns) c.numbers_of.ensures)
+          ∙ thrice_stored l xs ys zs 27 29 (numbers_long a.end.now) refl
           ∙ (λ i. sets l 0 (xs ++ ((place i ∷ digits i ∷ []) ++ zs)));
     }

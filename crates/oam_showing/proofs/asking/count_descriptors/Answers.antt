@@ -1,22 +1,29 @@
-use mathlib.Core.Path.{ap}
-use native.Mathlib.Omega.{arith}
+use Rattle.std.proofs.Common.{◌+◌, ◌*◌, ◌≡◌, ◌∙◌, sym, ap, arith, length, refl}
 use borrow.Author.Tests.{ne_eqb}
-use lib.ListN.{length}
 use Rattle.oam_showing.proofs.Asked.{all_asked, none_asked, past_asked, next_asked}
+use Rattle.oam_showing.proofs.Triples.{branch}
 use Rattle.oam_showing.proofs.asking.count_descriptors.Goals as goal
 
-pub loop-at-init : goal.loop-at-init
-loop-at-init c = (omega arith, omega arith, omega (arith, ap length (all_asked c.args.body.now)))
+pub loop-branch-init : goal.loop-branch-init
+loop-branch-init c = (refl, omega (arith, ap length (all_asked c.args.body.now)))
 
-pub returns-then-body-at-eq0 : goal.returns-then-body-at-eq0
-returns-then-body-at-eq0 c = let l = c.loop-at in
-    omega (arith, l.invariant.2, ap length (none_asked c.args.body.now l.at c.if-body-at-eq0.true))
+pub returns-then-branch-eq0 : goal.returns-then-branch-eq0
+returns-then-branch-eq0 c =
+    let l = c.loop-branch in
+    let s = c.args.body.now in
+    let b = branch s _ c.as_chunks.ensures.front l.count l.branch-index l.invariant.0 (omega (arith, c.as_chunks.ensures.front_len)) in
+    omega (arith, l.invariant.1, ap length (none_asked s (3 * l.count) (sym b ∙ c.if-branch-eq0.true)))
 
-pub loop-at-preserved : goal.loop-at-preserved
-loop-at-preserved c = let l = c.loop-at in
-    let h = c.loop-at-test.true in
-    (omega (arith, h), omega (arith, l.invariant.1), omega (arith, l.invariant.2, ap length (next_asked c.args.body.now l.at h (ne_eqb _ _ c.if-body-at-eq0.false))))
+pub loop-branch-preserved : goal.loop-branch-preserved
+loop-branch-preserved c =
+    let l = c.loop-branch in
+    let s = c.args.body.now in
+    let b = branch s _ c.as_chunks.ensures.front l.count l.branch-index l.invariant.0 (omega (arith, c.as_chunks.ensures.front_len)) in
+    let more = next_asked s (3 * l.count) (omega (arith, l.invariant.0, c.as_chunks.ensures.front_len)) (rw b at (ne_eqb _ _ c.if-branch-eq0.false)) in
+    let e : 3 * l.count + 3 ≡ 3 * (l.count + 1) = omega arith in
+    (omega (arith, l.invariant.0), omega (arith, l.invariant.1, ap length (rw e at more)))
 
 pub returns : goal.returns
-returns c = let l = c.loop-at in
-    omega (arith, l.invariant.2, ap length (past_asked c.args.body.now l.at (omega (arith, c.loop-at-test.false))))
+returns c =
+    let l = c.loop-branch in
+    omega (arith, l.invariant.1, ap length (past_asked c.args.body.now (3 * l.count) (omega (arith, l.invariant.0, c.as_chunks.ensures.front_len))))

@@ -1,13 +1,9 @@
-use mathlib.Core.Path.{sym, ◌∙◌}
-use native.Mathlib.Omega.{arith}
-use Rattle.octets.proofs.Stores.{none_past, stored_all}
+use Rattle.std.proofs.Common.{arith, ◌∙◌, sym}
+use Rattle.octets.proofs.Stores.{stored_all, none_past}
 use Rattle.octets.proofs.storing.put_octets.Goals as goal
 
-pub returns-then-out-at : goal.returns-then-out-at
-returns-then-out-at c = let a = c.args in
-    sym (none_past a.out.now a.at a.octets.now (omega (arith, c.if-out-at.true)))
+pub returns-after-loop-i : goal.returns-after-loop-i
+returns-after-loop-i c = let l = c.loop-i in sym (l.invariant.1 ∙ stored_all l.out _ l.i _ (omega arith) (omega arith))
 
-pub returns : goal.returns
-returns c =
-    let l = c.loop-i in
-    sym (l.invariant.4 ∙ stored_all l.out _ l.i _ (omega arith) (omega arith))
+pub returns-else-at-out : goal.returns-else-at-out
+returns-else-at-out c = sym (none_past c.args.out.now c.args.at c.args.octets.now c.if-at-out.false)

@@ -2,7 +2,7 @@ use Prim.Native.Nat.{ℕ, ◌+◌, ◌/◌, ◌%◌, ◌-◌, ◌<◌}
 use mathlib.Core.Path.{◌≡◌, ap, ◌∙◌}
 use native.Mathlib.Omega.{arith}
 use mathlib.Core.List.{List, [], ◌∷◌}
-use lib.ListN.{length, set, length-set, length-append}
+use lib.ListN.{length, set, length-append}
 use lib.Seq.{sets}
 use Rattle.text.specs.Decimal.{decimal_in}
 use Rattle.text.proofs.Decimals.{last_digit}
@@ -19,5 +19,5 @@ one_stored whole out at left rest h (places, count, e) =
     let less : left - 1 ≡ length before = omega (arith, ap length last.1 ∙ length-append before ((48 + rest % 10) ∷ [])) in
     (last.0, less, e ∙ ap (sets out at) last.1 ∙ sets_last out at before (48 + rest % 10) ∙ rw less)
 
-pub loop-left-preserved : goal.loop-left-preserved
-loop-left-preserved c = let a = c.args in let l = c.loop-left in (simp length-set l.invariant.0, omega arith, one_stored _ l.out a.at l.left l.rest c.loop-left-test.true l.invariant.2)
+pub loop-i-preserved : goal.loop-i-preserved
+loop-i-preserved c = let a = c.args in let l = c.loop-i in one_stored _ l.out a.at l.i l.rest c.loop-i-test.true l.invariant

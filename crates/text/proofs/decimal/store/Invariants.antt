@@ -1,4 +1,4 @@
-use Prim.Native.Nat.{ℕ, ◌≤◌}
+use Prim.Native.Nat.{ℕ}
 use mathlib.Core.Path.{◌≡◌}
 use mathlib.Core.List.{List}
 use lib.ListN.{length}
@@ -10,9 +10,5 @@ use Rattle.text.proofs.decimal.store.Given as goal
 abbrev pub Left : List ℕ → List ℕ → ℕ → ℕ → ℕ → Type 0
 Left whole out at left rest = (places : ℕ) × (left ≡ length (decimal_in places rest)) × (whole ≡ sets out at (decimal_in places rest))
 
-abbrev pub invariant-loop-left : goal.invariant-loop-left
-invariant-loop-left l = (length l.out ≡ length l.initial.out) × (l.left ≤ l.count)
-    × Left (sets l.initial.out l.at (decimal l.n)) l.out l.at l.left l.rest
-
-abbrev pub decreases-loop-left : goal.decreases-loop-left
-decreases-loop-left l = l.left
+abbrev pub invariant-loop-i : goal.invariant-loop-i
+invariant-loop-i l = Left (sets l.fn.out l.at (decimal l.n)) l.out l.at l.i l.rest

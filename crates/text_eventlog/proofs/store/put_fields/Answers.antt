@@ -12,8 +12,7 @@ loop-i-preserved c = let s = c.args.values.now in
     let e = c.parting_octet-after.ensures ∙ parting_at s l.i in
     let t = next_length s l.i h in
     let p = fitting (field_at s l.i) l.out l.at (rw e at n.ensures) (omega (arith, l.invariant)) in (
-      omega arith,
-      n.auto.out ∙ l.invariant.1,
+      n.auto.out ∙ l.invariant.0,
       omega (arith, l.invariant, n.auto.out, p.next),
-      l.invariant.3 ∙ next_stored_lem s l.i h l.out l.at ∙ rw (p.output, p.next),
+      l.invariant.2 ∙ next_stored_lem s l.i h l.out l.at ∙ rw (p.output, p.next),
     )

@@ -8,6 +8,6 @@ returns-then-is_stopped c = passes _ _ (sym c.is_stopped.ensures ∙ c.if-is_sto
 
 pub returns : goal.returns
 returns c = let a = c.args in
-    let count : c.smaller-count.result ≡ min (ahead a.self) (length a.piece.now - a.at) = c.smaller-count.ensures ∙ rw c.ahead.ensures in
-    let size : a.at + c.smaller-count.result - a.at ≡ c.smaller-count.result = omega arith in
+    let count : c.min-count.result ≡ min (ahead a.self.now) (length a.piece.now - a.at) = c.min-count.ensures ∙ rw c.ahead.ensures in
+    let size : a.at + c.min-count.result - a.at ≡ c.min-count.result = omega arith in
     rw (c.put_octets.ensures, size) (collects _ _ _ _ (sym c.is_stopped.ensures ∙ c.if-is_stopped.false) _ count c.requires)

@@ -1,0 +1,2 @@
+-- How the turns of the program go on.
+pub mod Turning

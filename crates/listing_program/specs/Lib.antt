@@ -1,0 +1,2 @@
+-- What the promises of listing_program cite.
+pub mod Listed
