@@ -1,5 +1,5 @@
 -- Runs of stores in a list, and numbers that fit in octets.
-use Rattle.std.proofs.Common.{◌≡◌, refl, ap, ◌∙◌, ℕ, zero, suc, ◌+◌, ◌-◌, ◌*◌, ◌/◌, ◌^◌, ◌<◌, ◌≤◌, min, List, [], ◌∷◌, ◌++◌, Bool, true, false, ltb, leb, eqb, length, get_or, drop, arith, add-zero, add-one, append_assoc}
+use Rattle.std.proofs.Common.{◌≡◌, refl, ap, ◌∙◌, ℕ, zero, suc, ◌+◌, ◌-◌, ◌*◌, ◌/◌, ◌^◌, ◌<◌, ◌≤◌, min, List, [], ◌∷◌, ◌++◌, Bool, true, false, ◌&&◌, ltb, leb, eqb, length, get_or, drop, arith, add-zero, add-one, append_assoc}
 use Rattle.std.proofs.Math.ListN.{set, drop_of_length-le}
 use Rattle.std.proofs.Math.Seq.{set_comm, set_out, drop-cons}
 use Rattle.std.proofs.lemmas.List.{drop-drop}
@@ -7,6 +7,7 @@ use Rattle.std.proofs.lemmas.List.Edits.{sets, sets-eq}
 use Rattle.std.proofs.Math.Nat.{pow-suc, add-suc, div-eq_of_lt, lt-div-mul-add, one-le-pow}
 use borrow.Author.Tests.{ltb-true, ltb-false, leb-true, leb-false, eq-eqb, ne_eqb}
 use borrow.Rule.Slice.PartMut.{put_mid}
+use Rattle.octets.specs.Octets.{fit}
 use Rattle.octets.proofs.Bools.{whether}
 
 -- a run of stores in two runs
@@ -39,8 +40,6 @@ pub empty : (text : List ℕ) → length text ≡ 0 → text ≡ []
 empty [] h = refl
 empty (x ∷ text) h = absurd (omega arith)
 
--- past the widths or past the numbers there is nothing to test
-
 -- ---- what is stored at once
 
 -- a part that is written at once is a run of stores
@@ -56,6 +55,11 @@ stored_all l at i xs h e =
     (λ f. none_past l (at + i) (drop i xs) (omega (arith, h, e, leb-false (length xs) i f)))
 
 -- ---- numbers that fit
+
+-- the first width and the first number, then the others
+pub next_fit : (ws vs : List ℕ) (i : ℕ) → i < length ws → i < length vs
+    → fit (drop i ws) (drop i vs) ≡ (ltb (get_or vs i 0) (256 ^ get_or ws i 0) && fit (drop (i + 1) ws) (drop (i + 1) vs))
+next_fit ws vs i h k = rw (add-one i, drop-cons ws i 0 h, drop-cons vs i 0 k)
 
 -- a shift by whole octets leaves nothing exactly where the number fits them
 pow_octets : (w : ℕ) → 2 ^ (8 * w) ≡ 256 ^ w
