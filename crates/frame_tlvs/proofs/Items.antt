@@ -6,7 +6,7 @@ use Rattle.octets.specs.declared.refusal.Refusal.TheVariants.{Broken as Refused}
 use Rattle.frame_tlvs.specs.Walk.{stop, skip, has, walk, items}
 use Rattle.frame_tlvs.specs.Tlvs.{Mark, End as MarkEnd, Broken as MarkBroken, Unknown, Known, mark_at}
 use Rattle.frame_tlvs.specs.Events.{EventStep, End, Broken, placed_event, step_of, event_step, next_of}
-use Rattle.frame_tlvs.specs.Counting.{Skip, more, counted_step, event_next, as_event_next, left}
+use Rattle.frame_tlvs.specs.Counting.{Skip, more, counted_step, event_next, cursor_after, as_event_next, left}
 use Rattle.frame_tlvs.specs.declared.Kind.TheVariants.{Events as EventKind}
 use Rattle.frame_tlvs.specs.declared.Event.{Event}
 use Rattle.frame_tlvs.specs.declared.Cursor.{Cursor}
@@ -62,3 +62,20 @@ module _ (e : Events) where
       → as_event_next (Some (Ok part)) (record { at = n; skipped = e.cursor.skipped }) ≡ event_next s e.cursor
   keeps None n h some = absurd (cc)
   keeps (Some x) n h some = counted s e.cursor _ h
+
+  -- the same by `cursor_after`, and after each other step
+  abbrev after : EventStep → Cursor
+  after x = cursor_after (length s) e.cursor (next_of x)
+
+  pub stands : (x : EventStep) → x ≡ event_step s e.cursor.at → after x ≡ after (event_step s e.cursor.at)
+  stands x h = ap after h
+
+  pub stands_skipping : (part : Option Event) (n skipped : ℕ) → placed_event part n ≡ event_step s e.cursor.at → is_some part ≡ false → skipped ≡ more e.cursor.skipped
+      → ◌≡◌ {A = Cursor} (record { at = n; skipped = skipped }) (after (event_step s e.cursor.at))
+  stands_skipping None n skipped h none m = (λ i. record { at = n; skipped = m i }) ∙ stands _ h
+  stands_skipping (Some x) n skipped h none m = absurd (cc)
+
+  pub stands_behind : (part : Option Event) (n : ℕ) → placed_event part n ≡ event_step s e.cursor.at → is_some part ≡ true
+      → ◌≡◌ {A = Cursor} (record { at = n; skipped = e.cursor.skipped }) (after (event_step s e.cursor.at))
+  stands_behind None n h some = absurd (cc)
+  stands_behind (Some x) n h some = stands _ h

@@ -5,7 +5,7 @@ use mathlib.Core.List.{List, [], ◌∷◌, map}
 use mathlib.Core.Bool.{Bool, true, ◌&&◌}
 use native.Mathlib.Omega.{arith}
 use native.Mathlib.Numerals.{add-one}
-use borrow.Author.Tests.{leb-true}
+use borrow.Author.Tests.{leb-true, eqb-true, ne_eqb}
 use lib.Dec.{leb}
 use lib.ListN.{length, get_or, drop}
 use lib.Seq.{drop-cons}
@@ -59,6 +59,22 @@ row_of t l h =
 -- the row from its k-th width on
 pub total_at : (ws : List ℕ) (k : ℕ) → k < length ws → total (drop k ws) ≡ get_or ws k 0 + total (drop (k + 1) ws)
 total_at ws k h = rw (add-one k, drop-cons ws k 0 h)
+
+-- six widths, each for itself
+pub six_cells : (ws : List ℕ) → length ws ≡ 6
+    → ws ≡ get_or ws 0 0 ∷ get_or ws 1 0 ∷ get_or ws 2 0 ∷ get_or ws 3 0 ∷ get_or ws 4 0 ∷ get_or ws 5 0 ∷ []
+six_cells [] h = absurd (omega arith)
+six_cells (a ∷ []) h = absurd (omega arith)
+six_cells (a ∷ b ∷ []) h = absurd (omega arith)
+six_cells (a ∷ b ∷ c ∷ []) h = absurd (omega arith)
+six_cells (a ∷ b ∷ c ∷ d ∷ []) h = absurd (omega arith)
+six_cells (a ∷ b ∷ c ∷ d ∷ e ∷ []) h = absurd (omega arith)
+six_cells (a ∷ b ∷ c ∷ d ∷ e ∷ f ∷ []) h = refl
+six_cells (a ∷ b ∷ c ∷ d ∷ e ∷ f ∷ g ∷ ws) h = absurd (omega arith)
+
+-- the width of a word that is neither two nor four is eight
+pub word_eight : (width : ℕ) → is_word width ≡ true → (width ≡ 2 → ⊥) → (width ≡ 4 → ⊥) → width ≡ 8
+word_eight width h a b = eqb-true width 8 (rw (ne_eqb width 2 a, ne_eqb width 4 b) at h)
 
 -- the fifth field of a row is a word, and lies where the row does
 pub fifth_lies : (at len t : ℕ) → 0 < t → t ≤ 4 → at + 2 + total (row t) ≤ len

@@ -3,7 +3,7 @@
 use Rattle.std.specs.Prelude.{ℕ, ◌+◌, ◌-◌, ◌^◌, ◌≡◌, List, length, cond, ltb, Option, None, Some, Result, Ok, Err}
 use Rattle.std.specs.Iterator.{YieldsFirst}
 use Rattle.octets.specs.declared.refusal.Refusal.{Refusal}
-use Rattle.frame_tlvs.specs.Walk.{walk, items}
+use Rattle.frame_tlvs.specs.Walk.{Next, stop, broken, skip, has, walk, items}
 use Rattle.frame_tlvs.specs.Events.{EventStep, End as StepEnd, Broken as StepBroken, Skip as StepSkip, Has as StepHas, event_step, next_of}
 use Rattle.frame_tlvs.specs.declared.Event.{Event}
 use Rattle.frame_tlvs.specs.declared.Cursor.{Cursor}
@@ -42,6 +42,14 @@ counted_step c (StepHas e next) = Has e (behind c next)
 unfoldable pub event_next : List ℕ → Cursor → EventNext
 event_next s c = counted_step c (event_step s c.at)
 
+-- Where an iterator over a body of so many octets stands after a call, by what stood at its cursor: at the walk's end where it stood,
+-- after what is broken at the body's end with the number as it was, and else at the cursor of the step.
+abbrev pub cursor_after : {P : Type 0} → ℕ → Cursor → Next P → Cursor
+cursor_after len c stop = c
+cursor_after len c broken = behind c len
+cursor_after len c (skip n) = skipping c n
+cursor_after len c (has p n) = behind c n
+
 -- ---- the iterator over the events
 
 abbrev pub Item : Type 0
@@ -58,7 +66,10 @@ as_event_next (Some (Ok (Some e))) c = Has e c
 abbrev pub left : Events → List Item
 left e = items (walk (λ at. next_of (event_step e.body.now at)) (length e.body.now) e.cursor.at)
 
--- A call of `next`: it gives the first of what was left, and then stands at the cursor of the step.
+-- A call of `next`: it gives the first of what was left, which is the step at its cursor, and then stands where `cursor_after` says.
 abbrev pub Steps : Events → Option Item → Events → Type 0
 Steps e item f =
-    YieldsFirst left e item f × (f.body.now ≡ e.body.now) × (as_event_next item f.cursor ≡ event_next e.body.now e.cursor)
+    YieldsFirst left e item f
+    × (f.body.now ≡ e.body.now)
+    × (as_event_next item f.cursor ≡ event_next e.body.now e.cursor)
+    × (f.cursor ≡ cursor_after (length e.body.now) e.cursor (next_of (event_step e.body.now e.cursor.at)))
