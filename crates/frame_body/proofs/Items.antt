@@ -4,7 +4,7 @@ use Rattle.std.specs.Option.{is_some}
 use Rattle.octets.specs.declared.refusal.Refusal.{Refusal}
 use Rattle.octets.specs.declared.refusal.Refusal.TheVariants.{Broken as Refused}
 use Rattle.frame_tlvs.specs.Walk.{stop, skip, has, walk, items}
-use Rattle.frame_tlvs.specs.Counting.{more}
+use Rattle.frame_tlvs.specs.Counting.{more, cursor_after}
 use Rattle.frame_tlvs.specs.declared.Cursor.{Cursor}
 use Rattle.frame_tlvs.proofs.Walks.{left as left_by, left_broken}
 use Rattle.frame_body.specs.Information.{InformationStep, End, Broken, placed_part, information_step, next_of}
@@ -49,3 +49,21 @@ module _ (e : Informations) where
   keeps None n h some = absurd (cc)
   keeps (Some (local i)) n h some = counted s e.cursor _ h
   keeps (Some (remote i)) n h some = counted s e.cursor _ h
+
+  -- the same by `cursor_after`, and after each other step
+  abbrev after : InformationStep → Cursor
+  after x = cursor_after (length s) e.cursor (next_of x)
+
+  pub stands : (x : InformationStep) → x ≡ information_step s e.cursor.at → after x ≡ after (information_step s e.cursor.at)
+  stands x h = ap after h
+
+  pub stands_skipping : (part : Option InformationPart) (n skipped : ℕ) → placed_part part n ≡ information_step s e.cursor.at → is_some part ≡ false → skipped ≡ more e.cursor.skipped
+      → ◌≡◌ {A = Cursor} (record { at = n; skipped = skipped }) (after (information_step s e.cursor.at))
+  stands_skipping None n skipped h none m = (λ i. record { at = n; skipped = m i }) ∙ stands _ h
+  stands_skipping (Some x) n skipped h none m = absurd (cc)
+
+  pub stands_behind : (part : Option InformationPart) (n : ℕ) → placed_part part n ≡ information_step s e.cursor.at → is_some part ≡ true
+      → ◌≡◌ {A = Cursor} (record { at = n; skipped = e.cursor.skipped }) (after (information_step s e.cursor.at))
+  stands_behind None n h some = absurd (cc)
+  stands_behind (Some (local i)) n h some = stands _ h
+  stands_behind (Some (remote i)) n h some = stands _ h

@@ -3,7 +3,7 @@
 use Rattle.std.specs.Prelude.{Option, None, Some, Result, Ok, Err}
 use Rattle.octets.specs.Refusals.{number}
 use Rattle.octets.specs.declared.refusal.Refusal.{Refusal}
-use Prim.Native.Nat.{ℕ, zero, suc, ◌+◌, ◌≤◌}
+use Prim.Native.Nat.{ℕ, zero, suc, ◌+◌, ◌<◌, ◌≤◌}
 use mathlib.Core.Path.{◌≡◌, refl, sym, ap, ◌∙◌, subst}
 use mathlib.Core.Bool.{Bool, true, false, cond}
 use mathlib.Core.List.{List, [], ◌∷◌}
@@ -13,7 +13,7 @@ use borrow.Author.Tests.{ltb-false, lt-ltb, le-ltb}
 use lib.ListN.{length, get_or}
 use lib.Dec.{ltb, eqb}
 use Rattle.frame_tlvs.specs.Tlvs.{mark_at}
-use Rattle.frame_tlvs.specs.Walk.{Walk, ends, on_next, walk, given, met, skipped_in, Parsed, refused, parts, also}
+use Rattle.frame_tlvs.specs.Walk.{Walk, ends, over, part, on_next, walk, given, met, skipped_in, Parsed, refused, parts, also}
 use Rattle.frame_tlvs.specs.Marks.{mark_next, marks_of}
 use Rattle.frame_body.specs.Information.{information_at, step_of, information_step, next_of, information_walk, information_parts, local_in}
 use Rattle.frame_body.specs.declared.InformationPart.{InformationPart}
@@ -157,6 +157,39 @@ module _ (s : List ℕ) where
   unfolding judged_information information_walk local_place
   judged_by_marks =
       by_marks (length s) 0 (length s) false 0 (omega arith) ∙ rw (le-ltb (length s) (length s) (omega arith), zero-add (skipped_in (left (length s) 0)))
+
+  -- what holds where so much of the body is left
+  pub record Going (at place : ℕ) (r : Bool) (skipped : ℕ) : Type 0 where
+    pub upto : place ≤ length s
+    pub few : skipped ≤ at
+    pub steps : ℕ
+    pub enough : length s ≤ at + steps
+    pub rest : judged_left place r skipped (places_left steps at) (left steps at) ≡ judged_information s
+
+  -- it holds again behind a Remote, which is judged as the rest, and behind a TLV that is skipped, which is counted
+  module _ (at place : ℕ) (r : Bool) (skipped : ℕ) (upto : place ≤ length s) (few : skipped ≤ at) (steps : ℕ) (enough : length s ≤ at + suc steps) where
+    one_remote : (i : Information) (n : ℕ) → at < n
+        → judged_left place false skipped (places_left steps n) (part (remote i) (left steps n)) ≡ judged_information s → Going n place true skipped
+    one_remote i n a e =
+        record {
+          upto = upto;
+          few = omega arith;
+          steps = steps;
+          enough = omega arith;
+          rest = sym (judged_also _ _ (remote i) (information_parts (ltb place (length s)) true (left steps n))) ∙ e;
+        }
+
+    one_skipped : (n : ℕ) → at < n → judged_left place r skipped (over (places_left steps n)) (over (left steps n)) ≡ judged_information s → Going n place r (skipped + 1)
+    one_skipped n a e =
+        let l = ltb place (length s) in
+        let one : skipped + 1 + skipped_in (left steps n) ≡ skipped + suc (skipped_in (left steps n)) = omega arith in
+        record {
+          upto = upto;
+          few = omega arith;
+          steps = steps;
+          enough = omega arith;
+          rest = ap (λ (k : ℕ). judged (cond l place (get_or (met (places_left steps n)) 0 (length s))) k (information_parts l r (left steps n))) one ∙ e;
+        }
 
   -- ---- the Local that is found
 

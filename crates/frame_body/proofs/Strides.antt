@@ -13,7 +13,7 @@ use borrow.Author.Tests.{ltb-true, eqb-true, leb-true, leb-false, lt-ltb, le-ltb
 use lib.ListN.{length, get_or}
 use lib.Dec.{ltb, leb, eqb}
 use Rattle.octets.specs.Octets.{num}
-use Rattle.octets.proofs.Bools.{whether}
+use Rattle.octets.proofs.Bools.{whether, by_cond}
 use Rattle.frame_tlvs.specs.Walk.{Next, stop, broken, has, whole}
 use Rattle.frame_tlvs.proofs.Walks.{Ahead, Rest, Then, Leads, turn}
 use Rattle.frame_body.specs.Variables.{Container, descriptor_step, descriptor_next, descriptor_walk, width_of, value_octets, container_from, container_step, container_next, container_walk}
@@ -170,6 +170,12 @@ module _ (s : List ℕ) (at : ℕ) where
       (λ f2.
       let step : container_step s at ≡ Value d v (at + 4 + v) = full_container b k ∙ simp (f, ← octets, f2) in
       leading Containers s at (at + 4 + v) _ g (ap (container_next s) step)))
+
+-- a value has at most 128 octets
+pub value_upto : (v octet : ℕ) → v ≡ value_octets octet → v ≤ 128
+value_upto v octet e =
+    let P : ℕ → Type 0 = λ n. v ≡ n → v ≤ 128 in
+    by_cond P (leb 128 octet) (λ _ h. omega arith) (λ f. by_cond P (eqb octet 0) (λ _ h. omega arith) (λ _ h. omega (arith, leb-false))) e
 
 -- the branches of a body's descriptors, three octets each
 chunk_at : (k i : ℕ) (s : List ℕ) → i < k → get_or (get_or (first_chunks 3 k s) i []) 0 0 ≡ get_or s (3 * i) 0

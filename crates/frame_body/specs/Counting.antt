@@ -4,7 +4,7 @@ use Rattle.std.specs.Iterator.{YieldsFirst}
 use Rattle.octets.specs.declared.refusal.Refusal.{Refusal}
 use Rattle.frame_tlvs.specs.Walk.{Walk, walk, whole, skipped_in, items}
 use Rattle.frame_tlvs.specs.Events.{event_walk}
-use Rattle.frame_tlvs.specs.Counting.{behind, skipping}
+use Rattle.frame_tlvs.specs.Counting.{behind, skipping, cursor_after}
 use Rattle.frame_tlvs.specs.declared.Cursor.{Cursor}
 use Rattle.frame_body.specs.Information.{InformationStep, End as StepEnd, Broken as StepBroken, Skip as StepSkip, Local as StepLocal, Remote as StepRemote, information_step, next_of}
 use Rattle.frame_body.specs.declared.Information.{Information}
@@ -49,10 +49,13 @@ as_information_next (Some (Ok (Some (remote i)))) c = Remote i c
 abbrev pub left : Informations → List Item
 left i = items (walk (λ at. next_of (information_step i.body.now at)) (length i.body.now) i.cursor.at)
 
--- A call of `next`: it gives the first of what was left, and then stands at the cursor of the step.
+-- A call of `next`: it gives the first of what was left, which is the step at its cursor, and then stands where `cursor_after` says.
 abbrev pub Steps : Informations → Option Item → Informations → Type 0
 Steps i item j =
-    YieldsFirst left i item j × (j.body.now ≡ i.body.now) × (as_information_next item j.cursor ≡ information_next i.body.now i.cursor)
+    YieldsFirst left i item j
+    × (j.body.now ≡ i.body.now)
+    × (as_information_next item j.cursor ≡ information_next i.body.now i.cursor)
+    × (j.cursor ≡ cursor_after (length i.body.now) i.cursor (next_of (information_step i.body.now i.cursor.at)))
 
 -- ---- the events of a notification
 

@@ -25,7 +25,8 @@ impl<'a> Informations<'a> {
         Informations { body, cursor }
     }
 
-    // Where the walk stands: at the octet after what `next` gave last, with the number of TLVs that were skipped before it.
+    // Where the walk stands: at the octet after what `next` gave last, with the number of TLVs that were skipped before that octet.
+    // After what is broken it is the body's end, with the number as it was; where nothing more stood it stays.
     pub fn cursor(&self) -> Cursor
         ensures { result ≡ self.now.cursor }
     {
