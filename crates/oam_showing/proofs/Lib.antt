@@ -2,6 +2,7 @@
 pub mod Untouched
 pub mod Moving
 pub mod Stored
+pub mod Cursors
 mod Triples
 pub mod Taking
 pub mod ReadAll

@@ -2,12 +2,12 @@
 -- that stores them.
 use Prim.Native.Nat.{ℕ, zero, suc, ◌+◌, ◌-◌, ◌*◌, ◌/◌, ◌^◌, ◌<◌, ◌≤◌}
 use mathlib.Core.Path.{◌≡◌, refl, sym, ap, subst, ◌∙◌}
-use mathlib.Core.List.{List, [], ◌∷◌, map, flatten}
+use mathlib.Core.List.{List, [], ◌∷◌, map, flatten, append-nil}
 use native.Mathlib.Nat.{add-zero, zero-add}
 use native.Mathlib.Omega.{arith}
 use borrow.Author.Tests.{ltb-true, ltb-false, lt-ltb}
 use lib.Dec.{ltb, eqb}
-use lib.ListN.{length, take, drop, length-drop}
+use lib.ListN.{length, get_or, set, take, drop, length-drop, drop_of_length-le}
 use lib.Seq.{sets, length-sets, take-nil, drop-nil, length-take-le}
 use Rattle.frame_tlvs.specs.Walk.{Next, stop, broken, skip, has, Walk, ends, part, on_next, walk, beside}
 use Rattle.frame_tlvs.specs.Counting.{more}
@@ -27,11 +27,47 @@ use Rattle.frame_body.specs.declared.Content.{Content}
 use Rattle.frame_body.specs.declared.Content.TheVariants.{Value as FoundValue, Indication as FoundIndication}
 use Rattle.octets.proofs.Bools.{by_cond, whether}
 use Rattle.frame_tlvs.proofs.Walks.{Ahead, Rest, Then, Leads, turn}
+use Rattle.frame_tlvs.proofs.Rows.{six_cells}
 use Rattle.frame_body.proofs.Wholes.{Contained, container_within}
 use Rattle.frame_body.proofs.Judging.{information_leads}
 use Rattle.frame_tlvs.proofs.Items.{event_leads}
 use Rattle.frame_body.proofs.Places.{descriptor_leads, container_leads}
-use Rattle.octets.proofs.Stores.{sets-append}
+use Rattle.octets.proofs.Stores.{sets-append, sets_next}
+
+-- ---- numbers stored one by one
+
+-- the first n of some numbers, each at its index
+abbrev firsts : ℕ → List ℕ → ℕ → List ℕ → List ℕ
+firsts zero lent to numbers = lent
+firsts (suc n) lent to numbers = set (firsts n lent to numbers) (to + n) (get_or numbers n 0)
+
+then_rest : (n : ℕ) (lent : List ℕ) (to : ℕ) (numbers : List ℕ) → n ≤ length numbers
+    → sets lent to numbers ≡ sets (firsts n lent to numbers) (to + n) (drop n numbers)
+then_rest zero lent to numbers h = rw add-zero
+then_rest (suc n) lent to numbers h =
+    let e : to + (n + 1) ≡ to + suc n = omega arith in
+    let d : n + 1 ≡ suc n = omega arith in
+    then_rest n lent to numbers (omega (arith, h)) ∙ (rw (e, d) at (sets_next (firsts n lent to numbers) to numbers n (omega (arith, h))))
+
+-- all of them
+pub one_by_one : (n : ℕ) (lent : List ℕ) (to : ℕ) (numbers : List ℕ) → length numbers ≡ n → firsts n lent to numbers ≡ sets lent to numbers
+one_by_one n lent to numbers e =
+    sym (then_rest n lent to numbers (omega (arith, e)) ∙ ap (λ (xs : List ℕ). sets (firsts n lent to numbers) (to + n) xs) (drop_of_length-le numbers {i = n} (omega (arith, e))))
+
+-- seven numbers leave no room for zeros
+pub full_row : (kind next skipped : ℕ) (numbers : List ℕ) → length numbers ≡ 7
+    → kind ∷ next ∷ skipped ∷ get_or numbers 0 0 ∷ get_or numbers 1 0 ∷ get_or numbers 2 0 ∷ get_or numbers 3 0 ∷ get_or numbers 4 0 ∷ get_or numbers 5 0 ∷ get_or numbers 6 0 ∷ [] ≡ row kind next skipped numbers
+full_row kind next skipped [] h = absurd (omega arith)
+full_row kind next skipped (a ∷ rest) h =
+    let six : length rest ≡ 6 = omega arith in
+    rw six (ap (λ (xs : List ℕ). kind ∷ next ∷ skipped ∷ a ∷ xs) (sym (six_cells rest six) ∙ sym (append-nil rest)))
+
+-- ---- what a function stores of what stands at a cursor
+
+-- nothing but what is said of it
+pub as_it_stood : {c : Cursor} {count first : ℕ} {next : Next (ℕ → List ℕ)} {entry : List ℕ}
+    → StoringRow c first next count entry (stood_of c next) (next_count count next) (next_stored c.skipped count first next entry)
+as_it_stood = record { stands = refl; counted = refl; stored = refl }
 
 -- ---- rows that are stored leave the lent numbers as many as they were
 
@@ -43,18 +79,18 @@ length-row_stored count first row lent =
 -- ---- a container as the code finds it
 
 -- a value lies within the frame, and has as many octets as its width says
-value_width : (f : List ℕ) (at descriptor width next : ℕ) → container_step f at ≡ Value descriptor width next
-    → length (take width (drop (next - width) f)) ≡ width
+pub value_width : (f : List ℕ) (at descriptor width next : ℕ) → container_step f at ≡ Value descriptor width next
+    → (width ≤ next) × (length (take width (drop (next - width) f)) ≡ width)
 value_width f at descriptor width next e =
     let h = subst (Contained at (length f)) e (container_within f at) in
     let w : width ≤ next = omega (arith, h.0) in
-    length-take-le width (drop (next - width) f) (omega (arith, w, h.1, length-drop (next - width) f))
+    (w, length-take-le width (drop (next - width) f) (omega (arith, w, h.1, length-drop (next - width) f)))
 
 content_found : (f : List ℕ) (at : ℕ) (descriptor : ℕ) (content : Content) (end : ℕ) → placed_content descriptor content end ≡ container_step f at
     → has (content_row_of descriptor content end) end ≡ mapped (awaiting container_row) (placed (container_next f (placed_content descriptor content end)))
 content_found f at descriptor (FoundValue width) end e =
     ap (λ (octets : ℕ). has (λ skipped. row 36 end skipped (descriptor ∷ (end - octets) ∷ octets ∷ [])) end)
-    (sym (value_width f at descriptor width end (sym e)))
+    (sym (value_width f at descriptor width end (sym e)).1)
 content_found f at descriptor (FoundIndication octet) end e = refl
 
 found : (f : List ℕ) (at : ℕ) (x : Option (Result (FoundPlaced FoundContainer) Refusal)) → as_container_step x ≡ container_step f at

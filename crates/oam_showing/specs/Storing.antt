@@ -52,15 +52,15 @@ part_next row None = stop
 part_next row (Some (Err r)) = broken
 part_next row (Some (Ok p)) = has (row p.part p.end) p.end
 
--- of a walk over TLVs, in which an unknown one is skipped
+-- what an iterator over TLVs gave, in which an unknown one is skipped, with the octet at which it then stands
 abbrev pub known_next : {P : Type 0} → (P → ℕ → ℕ → List ℕ) → Option P → ℕ → Next (ℕ → List ℕ)
 known_next row None next = skip next
 known_next row (Some p) next = has (row p next) next
 
-abbrev pub tlv_next : {P : Type 0} → (P → ℕ → ℕ → List ℕ) → Option (Result (FoundPlaced (Option P)) Refusal) → Next (ℕ → List ℕ)
-tlv_next row None = stop
-tlv_next row (Some (Err r)) = broken
-tlv_next row (Some (Ok p)) = known_next row p.part p.end
+abbrev pub tlv_next : {P : Type 0} → (P → ℕ → ℕ → List ℕ) → Option (Result (Option P) Refusal) → ℕ → Next (ℕ → List ℕ)
+tlv_next row None next = stop
+tlv_next row (Some (Err r)) next = broken
+tlv_next row (Some (Ok part)) next = known_next row part next
 
 -- what stands at octet `at` of a frame, its part as such a row
 abbrev pub information_row_at : List ℕ → ℕ → Next (ℕ → List ℕ)
@@ -109,6 +109,13 @@ stood_of c broken = None
 stood_of c (skip n) = Some (skipping c n)
 stood_of c (has row n) = Some (behind c n)
 
+-- the same where the cursor after it is there already, with its own number
+abbrev pub stood_at : Cursor → Next (ℕ → List ℕ) → Option Cursor
+stood_at after stop = None
+stood_at after broken = None
+stood_at after (skip n) = Some after
+stood_at after (has row n) = Some after
+
 -- the parts that there were, and the lent numbers, after it
 abbrev pub next_count : ℕ → Next (ℕ → List ℕ) → ℕ
 next_count count stop = count
@@ -127,6 +134,12 @@ pub record StoringRow (c : Cursor) (first : ℕ) (next : Next (ℕ → List ℕ)
   pub stands : stood ≡ stood_of c next
   pub counted : count' ≡ next_count count next
   pub stored : exit ≡ next_stored c.skipped count first next entry
+
+-- a function that stores the row of what an iterator gave, which then stands at a cursor
+pub record StoringItem (after : Cursor) (first : ℕ) (next : Next (ℕ → List ℕ)) (count : ℕ) (entry : List ℕ) (stood : Option Cursor) (count' : ℕ) (exit : List ℕ) : Type 0 where
+  pub stands : stood ≡ stood_at after next
+  pub counted : count' ≡ next_count count next
+  pub stored : exit ≡ next_stored after.skipped count first next entry
 
 -- a function that stores rows: how many there are, and those that are stored
 pub record StoringRows (rows : List (List ℕ)) (first : ℕ) (entry : List ℕ) (count : ℕ) (exit : List ℕ) : Type 0 where

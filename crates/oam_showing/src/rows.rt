@@ -1,13 +1,13 @@
 // The parts of a frame's body as rows of ten numbers, stored in a slice that the caller lends. One walk takes the parts in
-// order, by the steps of their kind, and stores each row at once.
+// order, TLVs by the iterators that count those that are skipped, the rest by the steps of their kind, and stores each row at once.
 ghost use Rattle.std.specs.Prelude.{◌≡◌, ◌+◌, ◌≤◌, ◌<◌, ◌^◌, ℕ, List, length};
 ghost use Rattle.std.proofs.lemmas.List.Edits.{sets};
 ghost use Rattle.frame_body.specs.Information.{information_values};
 ghost use Rattle.oam_showing.specs.Parts.{row_numbers, row};
-ghost use Rattle.oam_showing.specs.Storing.{part_row, event_row_of, descriptor_row_of, content_row, tlv_next, part_next, row_at, rows_from, start_of, row_stored, StoringRow, StoringRows};
+ghost use Rattle.oam_showing.specs.Storing.{part_row, event_row_of, descriptor_row_of, content_row, tlv_next, part_next, row_at, rows_from, start_of, row_stored, StoringItem, StoringRow, StoringRows};
 
-use frame_body::{Container, Content, Information, InformationPart};
-use frame_tlvs::{Cursor, Event, Placed};
+use frame_body::{Container, Content, Information, InformationPart, Informations};
+use frame_tlvs::{Cursor, Event, Events, Placed};
 use octets::{BODY_START, EVENTS_START, Refusal};
 
 // The numbers of a row: the part's kind, the octet after it, how many TLVs were skipped before it, and what the part says, then
@@ -159,7 +159,7 @@ impl Rows<'_> {
         }
     }
 
-    // Takes the part that was found at a cursor, and gives the cursor after it; below, of a walk over TLVs.
+    // Takes the part that was found at a cursor, and gives the cursor after it.
     fn take<P: Part>(
         &mut self,
         found: Option<Result<Placed<P>, Refusal>>,
@@ -180,29 +180,22 @@ impl Rows<'_> {
         Some(after)
     }
 
+    // The same of what an iterator over TLVs gave, with the cursor at which it then stands: the iterator counts what is skipped.
     fn take_tlv<P: Part>(
         &mut self,
-        found: Option<Result<Placed<Option<P>>, Refusal>>,
-        cursor: Cursor,
+        given: Option<Result<Option<P>, Refusal>>,
+        after: Cursor,
     ) -> Option<Cursor>
         requires { self.old.count + 1 < 2 ^ 64 }
-        ensures taken { StoringRow cursor self.old.first (tlv_next P.in_row found) self.old.count self.old.lent.now result self.new.count self.new.lent.now }
+        ensures taken { StoringItem after self.old.first (tlv_next P.in_row given after.at) self.old.count self.old.lent.now result self.new.count self.new.lent.now }
         ensures same { (self.new.first ≡ self.old.first) × (self.new.lent.ghost_name ≡ self.old.lent.ghost_name) }
     {
-        let Some(Ok(placed)) = found else {
+        let Some(Ok(known)) = given else {
             return None;
         };
-        let Some(part) = placed.part else {
-            return Some(Cursor {
-                at: placed.end,
-                skipped: frame_tlvs::more(cursor.skipped),
-            });
-        };
-        let after = Cursor {
-            at: placed.end,
-            skipped: cursor.skipped,
-        };
-        self.store(part.row(after));
+        if let Some(part) = known {
+            self.store(part.row(after));
+        }
         Some(after)
     }
 
@@ -213,8 +206,16 @@ impl Rows<'_> {
         ensures same { (self.new.first ≡ self.old.first) × (self.new.lent.ghost_name ≡ self.old.lent.ghost_name) }
     {
         match code {
-            0 => self.take_tlv(frame_body::information_step(frame, cursor.at), cursor),
-            1 => self.take_tlv(frame_tlvs::event_step(frame, cursor.at), cursor),
+            0 => {
+                let mut parts = Informations::from_cursor(frame, cursor);
+                let given = parts.next();
+                self.take_tlv(given, parts.cursor())
+            }
+            1 => {
+                let mut events = Events::from_cursor(frame, cursor);
+                let given = events.next();
+                self.take_tlv(given, events.cursor())
+            }
             2 => self.take(frame_body::descriptor_step(frame, cursor.at), cursor),
             3 => self.take(frame_body::container_step(frame, cursor.at), cursor),
             _ => None,
