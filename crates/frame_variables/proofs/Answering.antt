@@ -51,6 +51,10 @@ octets_are n k = by (eqb n 0) refl
     by true t e = let z : ◌≡◌ {A = ℕ} 0 1 = cc in absurd (omega arith)
     by false f e = (cc, eqb-false n 0 f)
 
+-- where there are some, they are taken from what was left
+pub left_some : (left n k : ℕ) → Some k ≡ some_octets n → left_after left k ≡ left - k
+left_some left n k e = let a = octets_are n k e in rw (ne_eqb k 0 (λ z. a.1 (omega (arith, a.0))))
+
 -- nothing fits into nothing: after an answer that does not fit there is none
 pub measured_none : (ns ds : List ℕ) → measured_answers 0 ns ds ≡ 0
 measured_none ns [] = refl

@@ -3,8 +3,9 @@ use Prim.Native.Nat.{ℕ, ◌+◌, ◌≤◌, min}
 use mathlib.Core.Path.{◌≡◌, refl, sym, ap, ◌∙◌}
 use mathlib.Core.List.{List, [], ◌∷◌}
 use mathlib.Core.Bool.{Bool, true, false, not, cond}
-use Rattle.std.proofs.Common.{Some, None}
+use Rattle.std.proofs.Common.{Ok, Err}
 use Rattle.std.specs.Bool.{then_some}
+use Rattle.std.specs.Option.{ok_or}
 use native.Mathlib.Omega.{arith}
 use borrow.Author.Tests.{leb-true, leb-false, eqb-true, ne_eqb}
 use lib.Dec.{leb, eqb}
@@ -16,7 +17,7 @@ use Rattle.frame_variables.specs.declared.Place.{Place}
 use Rattle.octets.specs.Tests.{every}
 use Rattle.frame_variables.specs.Descriptors.{plain_descriptor, plain_descriptors}
 use Rattle.frame_variables.specs.Attributes.{attributes_from, formed_pairs, distinct, widths, formed_attributes}
-use Rattle.frame_variables.specs.Answers.{not_supported, lookup, container_length, most_asked, formed_answers, place_from, place_of, some_place, place_in}
+use Rattle.frame_variables.specs.Answers.{not_supported, lookup, container_length, most_asked, formed_answers, place_from, place_of, found, place_in}
 
 -- what it says that attributes are in range
 pub record InRange (ns vs : List ℕ) : Type 0 where
@@ -86,26 +87,18 @@ place_answers ns vs h d =
     let f = held_parts ns vs h in
     rw (take_all 128 ns f.few) (placed_from_lem vs d ns 0 f.plain (omega (arith, f.just)))
 
--- the place that the code gives, or one of no octets, answers as well
-pub some_answers : {vs : List ℕ} {d : ℕ} {place : Place} {container : Container} → Placed vs d place container → Placed vs d (place_in (some_place place)) container
-some_answers {vs} {d} {place} {container} p = by (eqb place.width 0) refl
+-- nothing of a place is lost in what the code gives
+pub place_again : (place : Place) → place_in (found place) ≡ place
+place_again place = by (eqb place.width 0) refl
   where
-    by : (b : Bool) → eqb place.width 0 ≡ b → Placed vs d (place_in (cond b None (Some place))) container
-    by true t = record { within = omega arith; short = omega arith; answered = p.answered ∙ rw t refl }
-    by false f = p
-
--- and is as wide
-pub some_width : (place : Place) → (place_in (some_place place)).width ≡ place.width
-some_width place = by (eqb place.width 0) refl
-  where
-    by : (b : Bool) → eqb place.width 0 ≡ b → (place_in (cond b None (Some place))).width ≡ place.width
-    by true t = sym (eqb-true place.width 0 t)
+    by : (b : Bool) → eqb place.width 0 ≡ b → place_in (cond b (Err place.at) (Ok place)) ≡ place
+    by true t = ap (λ (w : ℕ). record { at = place.at; width = w }) (sym (eqb-true place.width 0 t))
     by false f = refl
 
 -- how the code comes to it
-pub then_some_place : (place : Place) → then_some (not (eqb place.width 0)) place ≡ some_place place
-then_some_place place = by (eqb place.width 0)
+pub then_found : (place : Place) → ok_or (then_some (not (eqb place.width 0)) place) place.at ≡ found place
+then_found place = by (eqb place.width 0)
   where
-    by : (b : Bool) → then_some (not b) place ≡ cond b None (Some place)
+    by : (b : Bool) → ok_or (then_some (not b) place) place.at ≡ cond b (Err place.at) (Ok place)
     by true = refl
     by false = refl

@@ -1,5 +1,5 @@
 -- What answers descriptors: "one container per descriptor in the order asked".
-use Rattle.std.specs.Prelude.{ℕ, ◌+◌, ◌-◌, ◌*◌, ◌%◌, min, List, [], ◌∷◌, Bool, cond, ◌&&◌, length, take, leb, eqb, Option, None, Some}
+use Rattle.std.specs.Prelude.{ℕ, ◌+◌, ◌-◌, ◌*◌, ◌%◌, min, List, [], ◌∷◌, Bool, cond, ◌&&◌, length, take, leb, eqb, Option, None, Some, Result, Ok, Err}
 use Rattle.octets.specs.Layout.{longest_frame, body_start}
 use Rattle.frame_body.specs.Variables.{Container, value, indication}
 use Rattle.frame_variables.specs.Descriptors.{plain_descriptors}
@@ -66,14 +66,14 @@ place_from at (x ∷ w ∷ ns) d = cond (eqb x d) (record { at = at; width = w }
 unfoldable pub place_of : List ℕ → ℕ → Place
 place_of ns d = place_from 0 (take (2 * most_attributes) ns) d
 
--- a place, and none where its width says that no value is held
-abbrev pub some_place : Place → Option Place
-some_place place = cond (eqb place.width 0) None (Some place)
+-- a place where a value is held, and where its width says that none is, the octet at which one would stand
+abbrev pub found : Place → Result Place ℕ
+found place = cond (eqb place.width 0) (Err place.at) (Ok place)
 
--- the place of the octets that answer: of no octets where there is none
-abbrev pub place_in : Option Place → Place
-place_in None = record { at = 0; width = 0 }
-place_in (Some place) = place
+-- and the place that it was: of no octets where no value is held
+abbrev pub place_in : Result Place ℕ → Place
+place_in (Ok place) = place
+place_in (Err at) = record { at = at; width = 0 }
 
 -- the octets of an answer, by the width of its value, where they fit into the room that is left; else 0
 abbrev pub fitted : ℕ → ℕ → ℕ

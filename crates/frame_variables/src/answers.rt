@@ -1,6 +1,6 @@
 // What answers a descriptor: where its value is found, how many octets the container has, and what of the room it leaves.
 ghost use Rattle.std.specs.Prelude.{◌≡◌};
-ghost use Rattle.frame_variables.specs.Answers.{room_within, formed_answers, width_octet, place_of, some_place, some_octets, fitted, answer_octets, measured_answers};
+ghost use Rattle.frame_variables.specs.Answers.{room_within, formed_answers, width_octet, place_of, found, some_octets, fitted, answer_octets, left_after, measured_answers};
 
 use crate::attributes::formed_attributes;
 use crate::descriptors::plain_descriptors;
@@ -40,9 +40,10 @@ pub fn width_octet(width: usize) -> u8
     }
 }
 
-// Where the value of a descriptor's attribute stands, if one is held: no value has a width of 0.
-pub fn place_of(attributes: &[u32], descriptor: u32) -> Option<Place>
-    ensures { result ≡ some_place (place_of attributes.now descriptor) }
+// Where the value of a descriptor's attribute stands; if none is held, the octet of the values at which it would stand. No value
+// has a width of 0.
+pub fn place_of(attributes: &[u32], descriptor: u32) -> Result<Place, usize>
+    ensures { result ≡ found (place_of attributes.now descriptor) }
 {
     let most = attributes.len().min(2 * MOST_ATTRIBUTES);
     let (pairs, _) = attributes[..most].as_chunks::<2>();
@@ -50,11 +51,11 @@ pub fn place_of(attributes: &[u32], descriptor: u32) -> Option<Place>
     for &[held, width] in pairs {
         let width = width as usize;
         if held == descriptor {
-            return (width != 0).then_some(Place { at, width });
+            return (width != 0).then_some(Place { at, width }).ok_or(at);
         }
         at += width;
     }
-    None
+    Err(at)
 }
 
 // The octets of an answer by its width, if they fit into what is left of the room.
@@ -75,8 +76,16 @@ fn answer_octets(left: usize, attributes: &[u32], descriptor: u32) -> Option<usi
     }
     fitted(
         left,
-        place_of(attributes, descriptor).unwrap_or_default().width,
+        place_of(attributes, descriptor).map_or(0, |place| place.width),
     )
+}
+
+// What an answer's octets leave of the room: nothing where it did not fit, since nothing fits into nothing.
+pub fn left_after(left: usize, octets: usize) -> usize
+    ensures { result ≡ left_after left octets }
+{
+    let rest = left.saturating_sub(octets);
+    if octets == 0 { 0 } else { rest }
 }
 
 // The octets of the answers to descriptors, as many as fit: from the first that does not, the rest is left off.
@@ -90,7 +99,7 @@ pub fn measured_answers(room: usize, attributes: &[u32], descriptors: &[u32]) ->
             break;
         };
         sum += octets;
-        left -= octets;
+        left = left_after(left, octets);
     }
     sum
 }

@@ -8,7 +8,9 @@ mod answers;
 mod attributes;
 mod descriptors;
 
-pub use answers::{fitted, formed_answers, measured_answers, place_of, room_within, width_octet};
+pub use answers::{
+    fitted, formed_answers, left_after, measured_answers, place_of, room_within, width_octet,
+};
 pub use descriptors::plain_descriptors;
 
 // The most attributes that a box holds, and the most octets of a value.
