@@ -18,7 +18,7 @@ use Rattle.frame.specs.Frame.{notification}
 use Rattle.frame_writer.specs.Encode.{event_values, event_octets, joined}
 use Rattle.octets.specs.Tests.{between, every}
 use Rattle.frame_writer.specs.Plain.{plain_event, most_events, plain_events, events_length, plain_body, some_octets}
-use Rattle.frame_writer.specs.Writing.{event_from, plain_seven, events_from, events_of, measured_events}
+use Rattle.frame_writer.specs.Writing.{event_from, plain_seven, events_from, events_of, measured_events, measured_seven}
 use Rattle.octets.proofs.Bools.{never, and_l, and_r}
 use Rattle.octets.proofs.Stores.{sets-append}
 use Rattle.frame_writer.proofs.Lengths.{tabled, events_short}
@@ -91,21 +91,60 @@ event_octets_lem vs s =
 
 -- ---- a turn of a loop over events
 
--- the events from the i-th on
-abbrev pub onward : List ℕ → ℕ → List Event
-onward vs i = events_from (length vs / 7 - i) (drop (7 * i) vs)
+-- the numbers of the i-th event, as they are lent, and the events from the i-th of n on
+abbrev pub seven_at : List ℕ → ℕ → List ℕ
+seven_at vs i = take (i * 7 + 7 - i * 7) (drop (i * 7) vs)
+
+abbrev pub onward : List ℕ → ℕ → ℕ → List Event
+onward vs n i = events_from (n - i) (drop (i * 7) vs)
+
+-- of all that the numbers are
+abbrev pub left_from : List ℕ → ℕ → List Event
+left_from vs i = onward vs (length vs / 7) i
 
 -- what is measured of events after a sum
 abbrev pub summed : ℕ → List Event → ℕ
 summed sum es = cond (every plain_event es) (sum + events_length es) 0
 
+module _ (vs : List ℕ) (n i : ℕ) (h : i < n) (k : n * 7 ≤ length vs) where
+  -- there are seven
+  all_seven : length (seven_at vs i) ≡ 7
+  all_seven = omega (arith, length-take (i * 7 + 7 - i * 7) (drop (i * 7) vs), length-drop (i * 7) vs)
+
+  -- they are the first of the events that are left
+  split : onward vs n i ≡ event_from (seven_at vs i) ∷ onward vs n (i + 1)
+  split =
+      let left : n - i ≡ suc (n - (i + 1)) = omega arith in
+      let part : i * 7 + 7 - i * 7 ≡ 7 = omega arith in
+      let next : i * 7 + 7 ≡ (i + 1) * 7 = omega arith in
+      let first : event_from (take 7 (drop (i * 7) vs)) ≡ event_from (drop (i * 7) vs) =
+      by_cells (λ (x : List ℕ). event_from (take 7 x) ≡ event_from x) (λ a b c d e f g x. refl) (drop (i * 7) vs) (omega (arith, length-drop (i * 7) vs)) in
+      rw (left, part) (λ j. sym first j ∷ events_from (n - (i + 1)) ((drop-drop 7 (i * 7) vs ∙ ap (λ (m : ℕ). drop m vs) next) j))
+
+  abbrev event_at : Event
+  event_at = event_from (seven_at vs i)
+
+  -- what is measured from it on: nothing where it is not plain
+  pub next_summed : (sum octets : ℕ) → octets ≡ measured_seven (seven_at vs i)
+      → (summed sum (onward vs n i) ≡ cond (eqb octets 0) 0 (summed (sum + octets) (onward vs n (i + 1)))) × (octets ≤ 40)
+  unfolding measured_seven plain_seven
+  next_summed sum octets e = by (plain_event event_at) refl (e ∙ rw (eq-eqb (length (seven_at vs i)) 7 all_seven))
+    where
+      by : (b : Bool) → plain_event event_at ≡ b → octets ≡ cond b (event_length event_at.kind) 0
+          → (summed sum (onward vs n i) ≡ cond (eqb octets 0) 0 (summed (sum + octets) (onward vs n (i + 1)))) × (octets ≤ 40)
+      by true p z =
+          let t = tabled event_at p in
+          let a : sum + (event_length event_at.kind + events_length (onward vs n (i + 1))) ≡ sum + octets + events_length (onward vs n (i + 1)) = omega arith in
+          (rw (split, p, ne_eqb octets 0 (λ y. omega (arith, t.sized)), a), omega (arith, t.short))
+      by false p z = (rw (split, p, eq-eqb octets 0 z), omega arith)
+
 -- a chunk of seven numbers
-chunk : (n i : ℕ) (vs : List ℕ) → i < n → get_or (first_chunks 7 n vs) i [] ≡ take 7 (drop (7 * i) vs)
+chunk : (n i : ℕ) (vs : List ℕ) → i < n → get_or (first_chunks 7 n vs) i [] ≡ take 7 (drop (i * 7) vs)
 chunk zero i vs h = absurd (omega arith)
 chunk (suc n) zero vs h = refl
 chunk (suc n) (suc i) vs h =
-    let e : 7 + 7 * i ≡ 7 * suc i = omega arith in
-    chunk n i (drop 7 vs) (omega arith) ∙ ap (take 7) (drop-drop (7 * i) 7 vs ∙ ap (λ (k : ℕ). drop k vs) e)
+    let e : 7 + i * 7 ≡ suc i * 7 = omega arith in
+    chunk n i (drop 7 vs) (omega arith) ∙ ap (take 7) (drop-drop (i * 7) 7 vs ∙ ap (λ (k : ℕ). drop k vs) e)
 
 module _ (vs : List ℕ) {sevens : List (List ℕ)} (e : sevens ≡ first_chunks 7 (length vs / 7) vs) (i : ℕ) (h : i < length vs / 7) where
   -- the i-th event's numbers, and the event
@@ -115,37 +154,29 @@ module _ (vs : List ℕ) {sevens : List (List ℕ)} (e : sevens ≡ first_chunks
   abbrev event : Event
   event = event_from seven
 
-  seven_is_chunk : seven ≡ take 7 (drop (7 * i) vs)
-  seven_is_chunk = ap (λ (x : List (List ℕ)). get_or x i []) e ∙ chunk (length vs / 7) i vs h
-
-  -- there are seven
-  all_seven : length seven ≡ 7
-  all_seven = omega (arith, ap length seven_is_chunk, length-take 7 (drop (7 * i) vs), length-drop (7 * i) vs)
+  seven_is_chunk : seven ≡ seven_at vs i
+  seven_is_chunk =
+      let part : i * 7 + 7 - i * 7 ≡ 7 = omega arith in
+      ap (λ (x : List (List ℕ)). get_or x i []) e ∙ chunk (length vs / 7) i vs h ∙ rw part
 
   -- it is the first of the events that are left
-  split : onward vs i ≡ event ∷ onward vs (i + 1)
-  split =
-      let left : length vs / 7 - i ≡ suc (length vs / 7 - (i + 1)) = omega arith in
-      let next : 7 * i + 7 ≡ 7 * (i + 1) = omega arith in
-      let first : event_from (take 7 (drop (7 * i) vs)) ≡ event_from (drop (7 * i) vs) =
-      by_cells (λ (x : List ℕ). event_from (take 7 x) ≡ event_from x) (λ a b c d e f g x. refl) (drop (7 * i) vs) (omega (arith, length-drop (7 * i) vs)) in
-      rw (seven_is_chunk, left)
-      (λ j. sym first j ∷ events_from (length vs / 7 - (i + 1)) ((drop-drop 7 (7 * i) vs ∙ ap (λ (m : ℕ). drop m vs) next) j))
+  split_left : left_from vs i ≡ event ∷ left_from vs (i + 1)
+  split_left = rw seven_is_chunk (split vs (length vs / 7) i h (omega arith))
 
   -- whether it is plain
   plain_is : plain_seven seven ≡ plain_event event
   unfolding plain_seven
-  plain_is = rw (eq-eqb (length seven) 7 all_seven)
+  plain_is = rw (eq-eqb (length seven) 7 (ap length seven_is_chunk ∙ all_seven vs (length vs / 7) i h (omega arith)))
 
   -- what is measured from it on: nothing where it is not plain
-  pub none_summed : (sum : ℕ) → plain_seven seven ≡ false → summed sum (onward vs i) ≡ 0
-  none_summed sum f = rw (split, sym plain_is ∙ f)
+  pub none_summed : (sum : ℕ) → plain_seven seven ≡ false → summed sum (left_from vs i) ≡ 0
+  none_summed sum f = rw (split_left, sym plain_is ∙ f)
 
-  pub next_summed : (sum : ℕ) → plain_seven seven ≡ true → summed sum (onward vs i) ≡ summed (sum + event_length event.kind) (onward vs (i + 1))
-  next_summed sum t =
-      let rest = events_length (onward vs (i + 1)) in
+  pub plain_summed : (sum : ℕ) → plain_seven seven ≡ true → summed sum (left_from vs i) ≡ summed (sum + event_length event.kind) (left_from vs (i + 1))
+  plain_summed sum t =
+      let rest = events_length (left_from vs (i + 1)) in
       let a : sum + (event_length event.kind + rest) ≡ sum + event_length event.kind + rest = omega arith in
-      rw (split, sym plain_is ∙ t, a)
+      rw (split_left, sym plain_is ∙ t, a)
 
   pub event_short : plain_seven seven ≡ true → (1 ≤ event_length event.kind) × (event_length event.kind ≤ 40)
   event_short t = let t = tabled event (sym plain_is ∙ t) in (omega (arith, t.sized), t.short)
@@ -153,23 +184,23 @@ module _ (vs : List ℕ) {sevens : List (List ℕ)} (e : sevens ≡ first_chunks
   -- where all that are left are plain: that it is, and what is stored from it on
   pub record Stored : Type 0 where
     pub plain : plain_seven seven ≡ true
-    pub long : events_length (onward vs i) ≡ event_length event.kind + events_length (onward vs (i + 1))
-    pub rest : every plain_event (onward vs (i + 1)) ≡ true
-    pub stored : (l : List ℕ) (at : ℕ) → sets l at (joined event_octets (onward vs i))
-        ≡ sets (sets l at (event_octets event)) (at + event_length event.kind) (joined event_octets (onward vs (i + 1)))
+    pub long : events_length (left_from vs i) ≡ event_length event.kind + events_length (left_from vs (i + 1))
+    pub rest : every plain_event (left_from vs (i + 1)) ≡ true
+    pub stored : (l : List ℕ) (at : ℕ) → sets l at (joined event_octets (left_from vs i))
+        ≡ sets (sets l at (event_octets event)) (at + event_length event.kind) (joined event_octets (left_from vs (i + 1)))
 
-  pub next_stored_lem : every plain_event (onward vs i) ≡ true → Stored
+  pub next_stored_lem : every plain_event (left_from vs i) ≡ true → Stored
   next_stored_lem p =
-      let all : (plain_event event && every plain_event (onward vs (i + 1))) ≡ true = sym (ap (every plain_event) split) ∙ p in
+      let all : (plain_event event && every plain_event (left_from vs (i + 1))) ≡ true = sym (ap (every plain_event) split_left) ∙ p in
       let first : plain_event event ≡ true = search and_l in
       record {
         plain = plain_is ∙ first;
-        long = ap events_length split;
+        long = ap events_length split_left;
         rest = search and_r;
         stored =
             λ l at.
-            ap (λ (es : List Event). sets l at (joined event_octets es)) split
-            ∙ sets-append l at (event_octets event) (joined event_octets (onward vs (i + 1)))
+            ap (λ (es : List Event). sets l at (joined event_octets es)) split_left
+            ∙ sets-append l at (event_octets event) (joined event_octets (left_from vs (i + 1)))
             ∙ rw (tabled event first).long;
       }
 

@@ -1,7 +1,7 @@
 -- One turn of each loop that stores, and parts that are stored one after another.
 use Prim.Native.Nat.{ℕ, suc, ◌+◌, ◌/◌, ◌%◌, ◌<◌}
-use mathlib.Core.Path.{◌≡◌, ◌∙◌}
-use mathlib.Core.List.{List}
+use mathlib.Core.Path.{◌≡◌, sym, ◌∙◌}
+use mathlib.Core.List.{List, ◌++◌}
 use native.Mathlib.Numerals.{add-one}
 use lib.ListN.{length, get_or, drop, set}
 use lib.Seq.{sets, drop-cons}
@@ -21,3 +21,8 @@ next_field l at i ws vs h k e =
     let v = get_or vs i 0 in
     rw (e, add-one i, drop-cons ws i 0 h, drop-cons vs i 0 k)
     (sets-append l at (oct w v) (octs (drop (suc i) ws) (drop (suc i) vs)) ∙ rw (length-oct w v))
+
+-- three parts stored one after another are stored as one
+pub three_stored : (l : List ℕ) (at : ℕ) (x y z : List ℕ) {i j : ℕ} → at + length x ≡ i → at + length x + length y ≡ j
+    → sets (sets (sets l at x) i y) j z ≡ sets l at (x ++ (y ++ z))
+three_stored l at x y z e f = sym (sets-append l at x (y ++ z) ∙ sets-append (sets l at x) (at + length x) y z ∙ rw (f, e))

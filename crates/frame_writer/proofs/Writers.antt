@@ -70,6 +70,10 @@ judged true true true needed octets room h n =
 
 -- what a writer comes to, by its tests
 module _ (m : Message) (d : List ℕ) where
+  pub refused_10 : plain m ≡ false → Writing m d (Refused 10) d
+  unfolding writes written
+  refused_10 p = record { answers = rw p; output = rw p }
+
   abbrev length_test : Bool
   length_test = ltb (length d) (length (encode m))
 

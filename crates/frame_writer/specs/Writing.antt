@@ -3,6 +3,7 @@ use Rattle.std.specs.Prelude.{ℕ, zero, suc, ◌/◌, ◌%◌, ◌≡◌, List,
 use Rattle.std.proofs.lemmas.List.Edits.{sets}
 use Rattle.frame_body.specs.declared.InformationPart.{InformationPart}
 use Rattle.frame_body.specs.declared.InformationPart.TheVariants.{Local as local, Remote as remote}
+use Rattle.frame_tlvs.specs.Tlvs.{event_length}
 use Rattle.frame_tlvs.specs.Events.{event_of}
 use Rattle.frame.specs.Frame.{Body, Message}
 use Rattle.frame_tlvs.specs.declared.Event.{Event}
@@ -89,3 +90,7 @@ events_of vs = cond (eqb (length vs % 7) 0) (events_from (length vs / 7) vs) []
 -- the octets that some events take, 0 where they have no plain form
 unfoldable pub measured_events : List Event → ℕ
 measured_events es = cond (plain_events es) (events_length es) 0
+
+-- and one event, of its seven numbers
+unfoldable pub measured_seven : List ℕ → ℕ
+measured_seven vs = cond (plain_seven vs) (event_length (get_or vs 0 0)) 0

@@ -5,7 +5,7 @@ ghost use Rattle.octets.specs.Octets.{oct};
 ghost use Rattle.octets.specs.Layout.{body_start};
 ghost use Rattle.frame.specs.Frame.{response};
 ghost use Rattle.frame_variables.specs.Attributes.{attributes_from, formed_attributes};
-ghost use Rattle.frame_variables.specs.Answers.{containers_length, answers, answers_within, formed_answers, place_of, some_place, place_in, answer_octets, measured_answers};
+ghost use Rattle.frame_variables.specs.Answers.{containers_length, answers, answers_within, formed_answers, place_of, answer_octets, measured_answers};
 ghost use Rattle.frame_writer.specs.Encode.{container_octets, joined};
 ghost use Rattle.frame_writer.specs.Plain.{most_containers_octets, sized, some_octets};
 ghost use Rattle.frame_writer.specs.Writing.{WritingFormed, as_written, message_of};
@@ -102,11 +102,14 @@ fn put_container(out: &mut [u8], at: usize, descriptor: u32, octet: u8, value: &
     put_octets(out, at + 4, value);
 }
 
-// Where the value of a descriptor's attribute stands, no octets at all where none is held.
-fn place_in(attributes: &[u32], descriptor: u32) -> Place
-    ensures { result ≡ place_in (some_place (place_of attributes.now descriptor)) }
+// Where the value of a descriptor's attribute stands, or would stand: there with no octets where none is held.
+fn place_of(attributes: &[u32], descriptor: u32) -> Place
+    ensures { result ≡ place_of attributes.now descriptor }
 {
-    frame_variables::place_of(attributes, descriptor).unwrap_or_default()
+    match frame_variables::place_of(attributes, descriptor) {
+        Ok(place) => place,
+        Err(at) => Place { at, width: 0 },
+    }
 }
 
 // Stores the answer to a descriptor from octet at where it fits into what is left of the room, and gives its octets if it does.
@@ -125,7 +128,7 @@ fn put_answer(
     if left < 4 {
         return None;
     }
-    let place = place_in(attributes, descriptor);
+    let place = place_of(attributes, descriptor);
     let octets = frame_variables::fitted(left, place.width)?;
     let value = &values[place.at..place.at + place.width];
     let octet = frame_variables::width_octet(place.width);
@@ -152,7 +155,7 @@ fn put_answers(
             return position;
         };
         position += octets;
-        left -= octets;
+        left = frame_variables::left_after(left, octets);
     }
     position
 }

@@ -6,7 +6,7 @@ use Rattle.octets.specs.Tests.{between}
 use Rattle.frame_writer.specs.Plain.{most_events}
 use lib.ListN.{length}
 use Rattle.std.proofs.lemmas.Bool.Decides.{nat_tests}
-use Rattle.frame_writer.proofs.Sevens.{uneven, even, seven_is, none_summed, next_summed, event_short}
+use Rattle.frame_writer.proofs.Sevens.{uneven, even, seven_is, none_summed, plain_summed, event_short}
 use Rattle.frame_writer.proofs.events.measured_events.Goals as goal
 
 pub returns-then-not-is_empty : goal.returns-then-not-is_empty
@@ -46,5 +46,5 @@ loop-event-preserved c =
     record {
       some = omega (arith, c.event_length-octets.ensures, short);
       few = omega (arith, c.event_length-octets.ensures, short);
-      measured = l.invariant.measured ∙ next_summed vs c.as_chunks.ensures.front l.event-index (omega arith) l.octets t ∙ rw c.event_length-octets.ensures;
+      measured = l.invariant.measured ∙ plain_summed vs c.as_chunks.ensures.front l.event-index (omega arith) l.octets t ∙ rw c.event_length-octets.ensures;
     }
