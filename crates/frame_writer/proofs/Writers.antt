@@ -5,7 +5,7 @@ use Rattle.std.proofs.lemmas.Result.{err_from_is_err_and}
 use Prim.Native.Nat.{ℕ, ◌+◌, ◌-◌, ◌<◌, ◌≤◌, max}
 use mathlib.Core.Path.{◌≡◌, refl, sym, ap, ◌∙◌}
 use mathlib.Core.List.{List, ◌++◌, append-nil}
-use mathlib.Core.Bool.{Bool, true, false, cond, ◌&&◌}
+use mathlib.Core.Bool.{Bool, true, false, cond, ◌&&◌, and-false}
 use native.Mathlib.Omega.{arith}
 use Rattle.std.proofs.lemmas.Bool.Decides.{nat_tests}
 use borrow.Author.Tests.{lt-ltb, le-ltb, ltb-true, ltb-false, eq-eqb, ne_eqb}
@@ -82,6 +82,11 @@ module _ (m : Message) (d : List ℕ) where
   unfolding writes written
   settled true p s e l = record { answers = rw (e, l); output = rw (e, l) }
   settled false p s e l = record { answers = rw (sym e); output = rw (sym e) }
+
+-- a header that has no plain form is refused, whatever the body
+pub header_10 : (source flags : ℕ) (formed : Bool) (b : Body) (d : List ℕ) → plain_header source flags ≡ false → WritingFormed formed (message_of source flags b) d (Refused 10) d
+unfolding plain
+header_10 source flags formed b d h = settled (message_of source flags b) d formed false (length_test (message_of source flags b) d) (rw h (and-false formed)) refl
 
 -- ---- a writer of a body that may not be formed at all, by the octets that it asks for
 

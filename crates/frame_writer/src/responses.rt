@@ -172,6 +172,10 @@ pub fn write_answers(
 ) -> Result<usize, Refusal>
     ensures { WritingFormed (formed_answers attributes.now values.now descriptors.now) (message_of sender.source sender.flags (response (answers_within size attributes.now values.now descriptors.now))) out.old (as_written result) out.new }
 {
+    // nothing is searched for where the header alone is refused
+    if !sender.is_plain() {
+        return Err(Refusal::OutOfRange);
+    }
     let needed = needed_octets(out.len(), size, attributes, values, descriptors);
     sender.permits(needed, out.len())?;
     sender.put(3, out);

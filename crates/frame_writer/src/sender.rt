@@ -29,7 +29,7 @@ pub struct Sender {
 
 impl Sender {
     // Whether the header has a plain form.
-    fn is_plain(self) -> bool
+    pub(crate) fn is_plain(self) -> bool
         ensures { result ≡ plain_header self.source self.flags }
     {
         self.source < 0x1000000000000 && plain_flags(self.flags)

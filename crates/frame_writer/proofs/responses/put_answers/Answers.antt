@@ -1,7 +1,6 @@
 use mathlib.Core.Path.{sym, ap, ◌∙◌}
 use native.Mathlib.Numerals.{add-one}
 use native.Mathlib.Omega.{arith}
-use lib.ListN.{drop}
 use lib.Seq.{sets, drop-cons}
 use Rattle.frame_variables.proofs.Answering.{left_some, measured_off, measured_next}
 use Rattle.frame_writer.proofs.Answering.{answers_off, answers_next}

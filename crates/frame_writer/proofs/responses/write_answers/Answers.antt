@@ -1,5 +1,5 @@
 use Prim.Native.Nat.{ℕ}
-use mathlib.Core.Path.{ap, ◌∙◌}
+use mathlib.Core.Path.{sym, ap, ◌∙◌}
 use native.Mathlib.Omega.{arith}
 use lib.Seq.{sets}
 use Rattle.octets.specs.Layout.{body_start}
@@ -8,8 +8,11 @@ use Rattle.frame_variables.specs.Answers.{answers, measured_answers}
 use Rattle.frame_variables.proofs.Placing.{formed_parts}
 use Rattle.frame_writer.specs.Encode.{container_octets, joined}
 use Rattle.frame_writer.proofs.Answering.{needed_same, answers_long}
-use Rattle.frame_writer.proofs.Writers.{refused_formed, accepted_formed, wrote_formed}
+use Rattle.frame_writer.proofs.Writers.{header_10, refused_formed, accepted_formed, wrote_formed}
 use Rattle.frame_writer.proofs.responses.write_answers.Goals as goal
+
+pub returns-then-not-is_plain : goal.returns-then-not-is_plain
+returns-then-not-is_plain c = header_10 _ _ _ _ _ (sym c.is_plain.ensures ∙ c.if-not-is_plain.true)
 
 pub returns-in_err-permits : goal.returns-in_err-permits
 returns-in_err-permits c =
