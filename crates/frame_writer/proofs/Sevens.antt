@@ -168,18 +168,20 @@ module _ (vs : List ℕ) {sevens : List (List ℕ)} (e : sevens ≡ first_chunks
   unfolding plain_seven
   plain_is = rw (eq-eqb (length seven) 7 (ap length seven_is_chunk ∙ all_seven vs (length vs / 7) i h (omega arith)))
 
-  -- what is measured from it on: nothing where it is not plain
-  pub none_summed : (sum : ℕ) → plain_seven seven ≡ false → summed sum (left_from vs i) ≡ 0
-  none_summed sum f = rw (split_left, sym plain_is ∙ f)
-
-  pub plain_summed : (sum : ℕ) → plain_seven seven ≡ true → summed sum (left_from vs i) ≡ summed (sum + event_length event.kind) (left_from vs (i + 1))
-  plain_summed sum t =
-      let rest = events_length (left_from vs (i + 1)) in
-      let a : sum + (event_length event.kind + rest) ≡ sum + event_length event.kind + rest = omega arith in
-      rw (split_left, sym plain_is ∙ t, a)
-
   pub event_short : plain_seven seven ≡ true → (1 ≤ event_length event.kind) × (event_length event.kind ≤ 40)
   event_short t = let t = tabled event (sym plain_is ∙ t) in (omega (arith, t.sized), t.short)
+
+  -- what is measured from it on, by whether it is plain
+  pub none_summed : (sum : ℕ) → plain_seven seven ≡ false → summed sum (left_from vs i) ≡ 0
+  unfolding measured_seven
+  none_summed sum f = (next_summed vs (length vs / 7) i h (omega arith) sum 0 (rw (← seven_is_chunk, f))).0
+
+  pub plain_summed : (sum : ℕ) → plain_seven seven ≡ true → summed sum (left_from vs i) ≡ summed (sum + event_length event.kind) (left_from vs (i + 1))
+  unfolding measured_seven
+  plain_summed sum t =
+      let n = event_length event.kind in
+      let some : eqb n 0 ≡ false = ne_eqb n 0 (λ z. omega (arith, z, event_short t)) in
+      (next_summed vs (length vs / 7) i h (omega arith) sum n (rw (← seven_is_chunk, t))).0 ∙ rw some
 
   -- where all that are left are plain: that it is, and what is stored from it on
   pub record Stored : Type 0 where
