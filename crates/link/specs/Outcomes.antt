@@ -10,6 +10,7 @@ use Rattle.link_end.specs.declared.End.{End}
 use Rattle.link_end.specs.declared.News.{News}
 use Rattle.link_end.specs.declared.News.TheVariants.{Nothing}
 use Rattle.link.specs.declared.Step.{Step}
+use Rattle.link.specs.declared.Outcome.{Outcome as LentOutcome}
 use Rattle.link_end.specs.Sending.{flags_to_send, sends, sent, tlvs_to_send}
 
 unfoldable pub information_to_send : End → Message
@@ -29,6 +30,10 @@ pub record Outcome : Type 0 where
 
 abbrev pub outcome : End → ℕ → ℕ → News → Outcome
 outcome e answer n shown = record { end = e; answer = answer; length = n; octet = octet_of e.role; shown = shown }
+
+-- the same of an end that is lent
+abbrev pub as_outcome : LentOutcome → Outcome
+as_outcome o = record { end = o.end.now; answer = o.answer; length = o.length; octet = o.octet; shown = o.shown }
 
 -- the same by the end after the call and its answer
 abbrev pub told : End → Result Step Refusal → Outcome
