@@ -20,6 +20,15 @@ use Rattle.oam_showing.specs.Showing.{Showing}
 use Rattle.link_end.specs.declared.Report.{Report}
 use Rattle.oam.specs.Machine.{Stepping, Freshly, report_from, known_report, news_shown, Receiving}
 
+-- a number of an outcome, and the state after it, by another that is the same
+pub same_number : {o o' : Outcome} {answer : ℕ} → o ≡ o' → answer ≡ stepped_number o → answer ≡ stepped_number o'
+same_number h a = a ∙ ap stepped_number h
+
+pub same_stored : {o o' : Outcome} {answer : ℕ} {state' : List ℕ} (state : List ℕ) → o ≡ o'
+    → (answer ≡ stepped_number o) × (state' ≡ stepped_state o state)
+    → (answer ≡ stepped_number o') × (state' ≡ stepped_state o' state)
+same_stored state h q = (same_number h q.0, q.1 ∙ ap (λ (x : Outcome). stepped_state x state) h)
+
 module _ {call : End → Outcome} {output : End → List ℕ → List ℕ} (found : MaybeEnd) (state out : List ℕ) where
   pub refused : {n : ℕ} → found ≡ Refused n → Stepping call output found state out n state out
   refused h = rw h (record { answers = refl; keeps = refl; writes = refl })

@@ -97,10 +97,10 @@ pub fn oam_report(report: u8, state: &mut [u8], out: &mut [u8]) -> u64
         Err(refusal) => u64::from(refusal.number()),
         Ok(mut end) => {
             let Some(known) = known_report(report) else {
-                return stepped_number(&end, Err(Refusal::OutOfRange));
+                return stepped_number(link::told(&end, Err(Refusal::OutOfRange)));
             };
             let step = link::take_report(&mut end, known, out);
-            store_outcome(&end, step, state)
+            store_outcome(link::told(&end, step), state)
         }
     }
 }
@@ -125,13 +125,13 @@ pub fn oam_receive(frame: &[u8], header: &mut [u64], state: &mut [u8], out: &mut
         Err(refusal) => u64::from(refusal.number()),
         Ok(mut end) => {
             if header.len() < oam_showing::HEADER_NUMBERS {
-                return stepped_number(&end, Err(Refusal::ShortOutput));
+                return stepped_number(link::told(&end, Err(Refusal::ShortOutput)));
             }
             match link::receive(&mut end, frame, out) {
-                Err(refusal) => store_outcome(&end, Err(refusal), state),
+                Err(refusal) => store_outcome(link::told(&end, Err(refusal)), state),
                 Ok(step) => {
                     show_news(header, step.shown);
-                    store_outcome(&end, Ok(step), state)
+                    store_outcome(link::told(&end, Ok(step)), state)
                 }
             }
         }

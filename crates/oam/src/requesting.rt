@@ -14,7 +14,7 @@ pub fn oam_start(state: &mut [u8], out: &mut [u8]) -> u64
         Err(refusal) => u64::from(refusal.number()),
         Ok(mut end) => {
             let step = link::start(&mut end, out);
-            store_outcome(&end, step, state)
+            store_outcome(link::told(&end, step), state)
         }
     }
 }
@@ -27,7 +27,7 @@ pub fn oam_stop(state: &mut [u8], out: &mut [u8]) -> u64
         Err(refusal) => u64::from(refusal.number()),
         Ok(mut end) => {
             let step = link::stop(&mut end, out);
-            store_outcome(&end, step, state)
+            store_outcome(link::told(&end, step), state)
         }
     }
 }
@@ -40,7 +40,7 @@ pub fn oam_request(descriptors: &[u32], state: &mut [u8], out: &mut [u8]) -> u64
         Err(refusal) => u64::from(refusal.number()),
         Ok(mut end) => {
             let step = link::request_variables(&mut end, descriptors, out);
-            store_outcome(&end, step, state)
+            store_outcome(link::told(&end, step), state)
         }
     }
 }
@@ -53,7 +53,7 @@ pub fn oam_notify(events: &[u64], state: &mut [u8], out: &mut [u8]) -> u64
         Err(refusal) => u64::from(refusal.number()),
         Ok(mut end) => {
             let step = link::notify(&mut end, events, out);
-            store_outcome(&end, step, state)
+            store_outcome(link::told(&end, step), state)
         }
     }
 }
@@ -66,7 +66,7 @@ pub fn oam_organization(oui: u32, octets: &[u8], state: &mut [u8], out: &mut [u8
         Err(refusal) => u64::from(refusal.number()),
         Ok(mut end) => {
             let step = link::send_organization(&mut end, oui, octets, out);
-            store_outcome(&end, step, state)
+            store_outcome(link::told(&end, step), state)
         }
     }
 }
@@ -86,7 +86,7 @@ pub fn oam_respond(
         Err(refusal) => u64::from(refusal.number()),
         Ok(mut end) => {
             let step = link::respond(&mut end, attributes, values, descriptors, out);
-            store_outcome(&end, step, state)
+            store_outcome(link::told(&end, step), state)
         }
     }
 }

@@ -66,7 +66,7 @@ fn store_tick(end: &End, watch: &Watch, ticked: Ticked, events: &mut [u64], stat
     ensures { (result ≡ ticked_number (told_tick end.now watch.now (Ok ticked))) × (events.new ≡ sets events.old 0 (counted_numbers (told_tick end.now watch.now (Ok ticked)).counted)) × (state.new ≡ ticked_state (told_tick end.now watch.now (Ok ticked)) state.old) }
 {
     let arisen = store_counted(ticked.arisen, events);
-    let number = store_outcome(end, Ok(ticked.step), state);
+    let number = store_outcome(link::told(end, Ok(ticked.step)), state);
     oam_packing::pack_watch(watch, state);
     number + arisen * ARISEN
 }
@@ -80,11 +80,11 @@ pub fn oam_tick(bad_frames: u64, events: &mut [u64], state: &mut [u8], out: &mut
         Err(refusal) => u64::from(refusal.number()),
         Ok(mut end) => {
             if events.len() < ARISEN_NUMBERS {
-                return stepped_number(&end, Err(Refusal::ShortOutput));
+                return stepped_number(link::told(&end, Err(Refusal::ShortOutput)));
             }
             let mut watch = oam_packing::watch_in(state);
             match link_counting::counted_tick(&mut end, &mut watch, bad_frames, out) {
-                Err(refusal) => stepped_number(&end, Err(refusal)),
+                Err(refusal) => stepped_number(link::told(&end, Err(refusal))),
                 Ok(ticked) => store_tick(&end, &watch, ticked, events, state),
             }
         }

@@ -2,24 +2,25 @@
 // whose end is then stored.
 #![tactic(auto)]
 
+mod answers;
+
 ghost use Rattle.std.specs.Prelude.{◌≡◌};
-ghost use Rattle.frame_writer.specs.Writing.{as_written};
 ghost use Rattle.link_end.specs.declared.News as News;
-ghost use Rattle.link.specs.Outcomes.{outcome, told};
-ghost use Rattle.oam_outcomes.specs.Written.{written_number};
+ghost use Rattle.link.specs.Outcomes.{outcome, as_outcome};
+ghost use Rattle.oam_outcomes.specs.Written.{as_written_by, written_number};
 ghost use Rattle.oam_outcomes.specs.Stepped.{kind_of, stepped_number, stepped_state};
 
-use link::Step;
+pub use answers::Answer;
+use link::Outcome;
 use link_end::{End, News};
-use octets::Refusal;
 
 // The answer in the low 8 bits, the length above them.
-pub fn written_number(written: Result<usize, Refusal>) -> u64
-    ensures { result ≡ written_number (as_written written) }
+pub fn written_number<A: Answer>(written: Result<usize, A>) -> u64
+    ensures { result ≡ written_number (as_written_by A.answer written) }
 {
     match written {
         Ok(octets) => (octets as u64) % 0x100000000 * 256,
-        Err(refusal) => u64::from(refusal.number()),
+        Err(refused) => u64::from(refused.answer()),
     }
 }
 
@@ -35,17 +36,13 @@ fn kind_of(shown: News) -> u64
 
 // Bits 0 to 7 the answer, 8 to 39 the length written, 40 to 47 the State octet after the call, 48 and 49 what is shown.
 #[tactic(auto, unfolding(crate::specs::Stepped::stepped_number))]
-pub fn stepped_number(end: &End, step: Result<Step, Refusal>) -> u64
-    ensures { result ≡ stepped_number (told end.now step) }
+pub fn stepped_number(outcome: Outcome<'_>) -> u64
+    ensures { result ≡ stepped_number (as_outcome outcome.entry) }
 {
-    match step {
-        Ok(step) => {
-            (step.length as u64) % 0x100000000 * 256
-                + u64::from(end.role().octet()) * 0x10000000000
-                + kind_of(step.shown) * 0x1000000000000
-        }
-        Err(refusal) => refused_number(refusal.number(), end),
-    }
+    u64::from(outcome.answer)
+        + (outcome.length as u64) % 0x100000000 * 256
+        + u64::from(outcome.octet) * 0x10000000000
+        + kind_of(outcome.shown) * 0x1000000000000
 }
 
 // What an entry itself refuses, before the machine is asked: the end stays as it is, and the number tells its State octet.
@@ -58,11 +55,11 @@ pub fn refused_number(answer: u8, end: &End) -> u64
 
 // How every call ends: the end after it is stored, unless it was refused.
 #[tactic(auto, unfolding(crate::specs::Stepped::stepped_state))]
-pub fn store_outcome(end: &End, step: Result<Step, Refusal>, state: &mut [u8]) -> u64
-    ensures { (result ≡ stepped_number (told end.now step)) × (state.new ≡ stepped_state (told end.now step) state.old) }
+pub fn store_outcome(outcome: Outcome<'_>, state: &mut [u8]) -> u64
+    ensures { (result ≡ stepped_number (as_outcome outcome.entry)) × (state.new ≡ stepped_state (as_outcome outcome.entry) state.old) }
 {
-    if step.is_ok() {
-        oam_packing::pack(end, state);
+    if outcome.answer == 0 {
+        oam_packing::pack(outcome.end, state);
     }
-    stepped_number(end, step)
+    stepped_number(outcome)
 }

@@ -1,5 +1,5 @@
--- Nothing but zeros; parts stored one after another; and how long the octets and numbers of an end and of a watch are.
-use Rattle.std.proofs.Common.{◌≡◌, arith, refl, sym, ap, ◌∙◌, ℕ, ◌+◌, List, [], ◌∷◌, Bool, ◌&&◌, eqb, length}
+-- Nothing but zeros; parts stored one after another; an octet of a number; and how long the octets and numbers of an end and of a watch are.
+use Rattle.std.proofs.Common.{◌≡◌, arith, refl, sym, ap, ◌∙◌, mod-eq_of_lt, ℕ, ◌+◌, ◌%◌, ◌<◌, List, [], ◌∷◌, Bool, ◌&&◌, eqb, length}
 use Rattle.std.specs.List.{list_all}
 use Rattle.std.proofs.lemmas.List.Edits.{sets}
 use Rattle.octets.specs.Octets.{zeros}
@@ -29,6 +29,10 @@ lengths (x ∷ xs) = length x ∷ lengths xs
 stored_together : (xs : List (List ℕ)) (s : List ℕ) (at : ℕ) → stored_at (lengths xs) xs s at ≡ sets s at (together xs)
 stored_together [] s at = refl
 stored_together (x ∷ xs) s at = stored_together xs (sets s at x) (at + length x) ∙ sym (sets-append s at x (together xs))
+
+-- the octet of a number that fits it
+pub octet_of_lem : {r n : ℕ} → r < 256 → r ≡ n → r ≡ n % 256
+octet_of_lem h e = sym (mod-eq_of_lt h) ∙ ap (λ (m : ℕ). m % 256) e
 
 -- every part has its length
 pub parts_long : (e : End) → lengths (end_parts e) ≡ end_lengths
