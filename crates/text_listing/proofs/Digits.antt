@@ -51,6 +51,14 @@ module _ (c : ℕ) where
   pub foreign : 15 < value_of c → is_digit c ≡ false
   foreign h = whether (is_digit c) (λ t. absurd (omega (arith, rw t at h, small t))) (λ f. f)
 
+-- one value more is set in a table
+pub value_set : (values : List ℕ) (n value : ℕ) → n < length values → value ≡ value_of n
+    → ((c : ℕ) → c < n → get_or values c 0 ≡ value_of c) → (c : ℕ) → c < n + 1 → get_or (set values n value) c 0 ≡ value_of c
+value_set values n value within is before c h =
+    by_bound c n
+    (λ a. get_or-set_other values n c value 0 (λ e. absurd (omega (arith, a, e))) ∙ before c a)
+    (λ a. let e : c ≡ n = omega arith in rw e (get_or-set_same values n value 0 within ∙ is))
+
 -- two values are tested at once
 pub both_small : (a b : ℕ) → bit_or a b ≤ 15 → (a ≤ 15) × (b ≤ 15)
 both_small a b h = (omega (arith, or_add_and a b, and_le_r a b), omega (arith, or_add_and a b, and_le_l a b))

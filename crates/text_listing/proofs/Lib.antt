@@ -5,4 +5,5 @@ pub mod Digits
 pub mod Keeping
 pub mod Leading
 pub mod Standing
+pub mod Beginning
 pub mod Finishing
