@@ -152,7 +152,7 @@ fn put_answers(
     let mut left = room;
     for &descriptor in descriptors {
         let Some(octets) = put_answer(out, position, left, attributes, values, descriptor) else {
-            return position;
+            break;
         };
         position += octets;
         left = frame_variables::left_after(left, octets);
