@@ -56,19 +56,24 @@ fn container_from(body: &[u8], descriptor: Placed<u32>) -> Result<Placed<Contain
         return Err(Refusal::Broken);
     }
     let octet = body[from];
-    let width = value_octets(octet);
+    // Of its own, and no value of no octets: a branch can be foreseen, and the next container read before this octet has come.
+    if 128 <= octet {
+        return Ok(Placed {
+            part: Container {
+                descriptor: descriptor.part,
+                content: Content::Indication(octet),
+            },
+            end: from + 1,
+        });
+    }
+    let width = width_of(octet);
     if body.len() - (from + 1) < width {
         return Err(Refusal::Broken);
     }
-    let content = if 128 <= octet {
-        Content::Indication(octet)
-    } else {
-        Content::Value(width)
-    };
     Ok(Placed {
         part: Container {
             descriptor: descriptor.part,
-            content,
+            content: Content::Value(width),
         },
         end: from + 1 + width,
     })
