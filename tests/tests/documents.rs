@@ -481,7 +481,7 @@ fn has_one_variant_more(old: &str, new: &str) -> bool {
 /// Whether a line is the old one with statements put before it, none of which branches.
 fn has_statements_before(old: &str, new: &str) -> bool {
     let before = new.trim().strip_suffix(old.trim()).map(str::trim_end);
-    let branches = ["if", "match", "for", "while", "loop"];
+    let branches = ["if", "else", "match", "for", "while", "loop"];
     before.is_some_and(|it| it.ends_with(';') && !words(it).any(|word| branches.contains(&word)))
 }
 
@@ -597,6 +597,7 @@ fn an_edit_may_have_statements_before_the_line() {
         // one that branches
         ("f(m)", "if n { return m; } f(m)"),
         ("f(m)", "if n { return m; }; f(m)"),
+        ("f(m)", "let Some(m) = g(n) else { return k; }; f(m)"),
         ("f(m)", "while n { m.g(n); } k(n); f(m)"),
         ("f(m)", "let m = match n { A::B => m, _ => n }; f(m)"),
         // another change beside it, or the statement behind the line
