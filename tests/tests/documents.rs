@@ -510,7 +510,7 @@ fn misshapen(edit: &str) -> Vec<&str> {
 }
 
 /// How many edits there are. An edit that comes is counted here: so one that goes is seen.
-const EDITS: usize = 118;
+const EDITS: usize = 119;
 
 #[test]
 fn an_edit_that_must_be_refused_keeps_the_shape_of_the_code() {

@@ -1,11 +1,24 @@
 // The descriptors of a Variable Request and the containers of a Variable Response.
-ghost use Rattle.std.specs.Prelude.{◌≡◌, Some};
+ghost use Rattle.std.specs.Prelude.{◌≡◌, ◌+◌, ◌<◌, ◌≤◌, Some, length};
+ghost use Rattle.octets.specs.Octets.{num};
 ghost use Rattle.frame_tlvs.specs.Walk.{OnlyBroken};
 ghost use Rattle.frame_body.specs.Variables.{Has, as_descriptor_step, descriptor_step, width_of, value_octets, as_container_step, container_from, container_step, container_value};
 
 use crate::{Container, Content};
 use frame_tlvs::Placed;
 use octets::Refusal;
+
+// The descriptor that stands whole at an octet.
+#[inline(always)]
+fn descriptor_at(body: &[u8], at: usize) -> Placed<u32>
+    requires { at + 3 ≤ length body.now }
+    ensures { (result.part ≡ num 3 body.now at) × (result.end ≡ at + 3) }
+{
+    Placed {
+        part: u32::from_be_bytes([0, body[at], body[at + 1], body[at + 2]]),
+        end: at + 3,
+    }
+}
 
 // What stands at an octet of a list of descriptors: nothing more, or a descriptor, which is one number, the branch above the
 // leaf's sixteen bits.
@@ -25,10 +38,7 @@ pub fn descriptor_step(body: &[u8], at: usize) -> Option<Result<Placed<u32>, Ref
     if body.len() - at < 3 {
         return Some(Err(Refusal::Broken));
     }
-    Some(Ok(Placed {
-        part: u32::from_be_bytes([0, body[at], body[at + 1], body[at + 2]]),
-        end: at + 3,
-    }))
+    Some(Ok(descriptor_at(body, at)))
 }
 
 // The octets of a value by its width octet.
@@ -48,15 +58,14 @@ pub(crate) fn value_octets(octet: u8) -> usize
 // The container whose descriptor was found: its width octet stands after it, then its value.
 #[inline(always)]
 fn container_from(body: &[u8], descriptor: Placed<u32>) -> Result<Placed<Container>, Refusal>
+    requires { descriptor.end < length body.now }
     ensures found { as_container_step (Some result) ≡ container_from body.now (Has descriptor.part descriptor.end) }
     ensures refusal { OnlyBroken (Some result) }
 {
     let from = descriptor.end;
-    if body.len() <= from {
-        return Err(Refusal::Broken);
-    }
     let octet = body[from];
-    // Of its own, and no value of no octets: a branch can be foreseen, and the next container read before this octet has come.
+    // An indication is a branch of its own, and not a value of no octets: a processor guesses a branch, and reads on with the next
+    // container before this octet has come.
     if 128 <= octet {
         return Ok(Placed {
             part: Container {
@@ -79,22 +88,25 @@ fn container_from(body: &[u8], descriptor: Placed<u32>) -> Result<Placed<Contain
     })
 }
 
-// What stands at an octet of a list of containers: nothing more, or a container. A descriptor and a width octet are four octets.
+// What stands at an octet of a list of containers: nothing more, or a container. A descriptor and a width octet are four octets, for
+// which the body's end is tested once.
 //
 // # Errors
 //
 // `Refusal::Broken` of a container that the body's end cuts off.
-#[tactic(auto, unfolding(crate::specs::Variables::container_step))]
+#[tactic(auto, unfolding(crate::specs::Variables::container_step, crate::specs::Variables::descriptor_step))]
 #[inline]
 pub fn container_step(body: &[u8], at: usize) -> Option<Result<Placed<Container>, Refusal>>
     ensures found { as_container_step result ≡ container_step body.now at }
     ensures refusal { OnlyBroken result }
 {
-    match descriptor_step(body, at) {
-        None => None,
-        Some(Err(refusal)) => Some(Err(refusal)),
-        Some(Ok(descriptor)) => Some(container_from(body, descriptor)),
+    if body.len() <= at || body[at] == 0 {
+        return None;
     }
+    if body.len() - at < 4 {
+        return Some(Err(Refusal::Broken));
+    }
+    Some(container_from(body, descriptor_at(body, at)))
 }
 
 // The value of the container at an octet; empty where no value stands.

@@ -1,11 +1,11 @@
 -- Runs of stores in a list, and numbers that fit in octets.
-use Rattle.std.proofs.Common.{◌≡◌, refl, ap, ◌∙◌, ℕ, zero, suc, ◌+◌, ◌-◌, ◌*◌, ◌/◌, ◌^◌, ◌<◌, ◌≤◌, min, List, [], ◌∷◌, ◌++◌, Bool, true, false, ◌&&◌, ltb, leb, eqb, length, get_or, drop, arith, add-zero, add-one, append_assoc}
+use Rattle.std.proofs.Common.{◌≡◌, refl, ap, ◌∙◌, ℕ, suc, ◌+◌, ◌-◌, ◌^◌, ◌<◌, ◌≤◌, min, List, [], ◌∷◌, ◌++◌, ◌&&◌, ltb, leb, length, get_or, drop, arith, add-zero, add-one, append_assoc}
 use Rattle.std.proofs.Math.ListN.{set, drop_of_length-le}
 use Rattle.std.proofs.Math.Seq.{set_comm, set_out, drop-cons}
 use Rattle.std.proofs.lemmas.List.{drop-drop}
 use Rattle.std.proofs.lemmas.List.Edits.{sets, sets-eq}
-use Rattle.std.proofs.Math.Nat.{pow-suc, add-suc, div-eq_of_lt, lt-div-mul-add, one-le-pow}
-use borrow.Author.Tests.{ltb-true, ltb-false, leb-true, leb-false, eq-eqb, ne_eqb}
+use Rattle.std.proofs.Math.Nat.{add-suc}
+use borrow.Author.Tests.{leb-true, leb-false}
 use borrow.Rule.Slice.PartMut.{put_mid}
 use Rattle.octets.specs.Octets.{fit}
 use Rattle.octets.proofs.Bools.{whether}
@@ -60,23 +60,3 @@ stored_all l at i xs h e =
 pub next_fit : (ws vs : List ℕ) (i : ℕ) → i < length ws → i < length vs
     → fit (drop i ws) (drop i vs) ≡ (ltb (get_or vs i 0) (256 ^ get_or ws i 0) && fit (drop (i + 1) ws) (drop (i + 1) vs))
 next_fit ws vs i h k = rw (add-one i, drop-cons ws i 0 h, drop-cons vs i 0 k)
-
--- a shift by whole octets leaves nothing exactly where the number fits them
-pow_octets : (w : ℕ) → 2 ^ (8 * w) ≡ 256 ^ w
-pow_octets zero = refl
-pow_octets (suc w) =
-    let e : 8 * suc w ≡ suc (suc (suc (suc (suc (suc (suc (suc (8 * w)))))))) = omega arith in
-    let p = pow_octets w in
-    rw (e, pow-suc, pow-suc, pow-suc, pow-suc, pow-suc, pow-suc, pow-suc, pow-suc, pow-suc) (omega arith)
-
-above : (v m : ℕ) → 0 < m → v / m ≡ 0 → m ≤ v → ⊥
-above v m p e h = let k : v < v / m * m + m = lt-div-mul-add p in omega (arith, rw e at k)
-
-below : (v m : ℕ) → 0 < m → (b : Bool) → ltb v m ≡ b → eqb (v / m) 0 ≡ b
-below v m p true t = let h : v < m = ltb-true v m t in eq-eqb _ _ (div-eq_of_lt h)
-below v m p false f =
-    let h : m ≤ v = ltb-false v m f in
-    ne_eqb _ _ (λ e. absurd (omega (arith, above v m p e h)))
-
-pub shifted : (v w : ℕ) → eqb (v / 2 ^ (8 * w)) 0 ≡ ltb v (256 ^ w)
-shifted v w = rw pow_octets (below v (256 ^ w) (one-le-pow w 256 (omega arith)) _ refl)

@@ -2,11 +2,16 @@
 ghost use Rattle.std.specs.Prelude.{◌≡◌, ◌^◌, ◌<◌, ltb};
 ghost use Rattle.octets.specs.Octets.{fit};
 
-// Whether a number fits in width octets.
+// Whether a number fits in width octets. (It is compared with a bound, and not shifted: of the widths of an event, which hang on its
+// type, the compiler makes constant bounds, where a shift would be by a register.)
 pub fn fits(value: u64, width: usize) -> bool
     ensures { result ≡ ltb value (256 ^ width) }
 {
-    8 <= width || value >> (8 * width) == 0
+    match width {
+        0 => value == 0,
+        1..=7 => value <= u64::MAX >> (64 - 8 * width),
+        _ => true,
+    }
 }
 
 // Whether each number fits its width, as far as there are both.

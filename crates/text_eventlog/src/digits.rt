@@ -13,7 +13,9 @@ fn no_leading_zero(field: &[u8]) -> bool
     }
 }
 
-// A number with one more digit; none where the octet is no digit, or the number goes beyond 64 bits.
+// A number with one more digit; none where the octet is no digit, or the number goes beyond 64 bits. (The bound is tested before the
+// digit is added: with checked operations the compiler writes the loop over the fields out once for each field, and its counters no
+// longer fit in registers.)
 #[tactic(auto, unfolding(crate::specs::Digits::with_digit))]
 fn with_digit(n: u64, octet: u8) -> Option<u64>
     ensures { result ≡ with_digit n octet }
@@ -21,7 +23,11 @@ fn with_digit(n: u64, octet: u8) -> Option<u64>
     if !octet.is_ascii_digit() {
         return None;
     }
-    n.checked_mul(10)?.checked_add(u64::from(octet - b'0'))
+    let digit = u64::from(octet - b'0');
+    if (u64::MAX - digit) / 10 < n {
+        return None;
+    }
+    Some(n * 10 + digit)
 }
 
 // The number of a field that is decimal throughout.

@@ -1,8 +1,9 @@
 // Feeding an input in pieces: the lines' rows as far as there is room for them.
-ghost use Rattle.std.specs.Prelude.{◌≡◌};
-ghost use Rattle.octets.specs.Refusals.{number};
+ghost use Rattle.std.specs.Prelude.{◌≡◌, ◌+◌, ◌≤◌, length};
+ghost use Rattle.text.specs.Put.{Stored};
 ghost use Rattle.text.specs.Pieces.{stage, Feeds};
-ghost use Rattle.text_listing.specs.Feeding.{begun, lister, as_finished, Finishes};
+ghost use Rattle.text_listing.specs.Rows.{row_room};
+ghost use Rattle.text_listing.specs.Feeding.{begun, present_row, lister, as_finished, Finishes};
 
 use crate::line::{Line, values};
 use crate::row::{ROW, store_row};
@@ -27,6 +28,15 @@ impl Progress {
         }
     }
 
+    // The row of the present line, from octet at, where there is room for any row. (One function of its own: so an entry stays in
+    // registers on its way from the frame to its row.)
+    fn store_present_row(self, frame: &[u8], out: &mut [u8], at: usize) -> usize
+        requires { at + row_room ≤ length out.old }
+        ensures { Stored (present_row (record { progress = self; frame = frame.now })) out.old at result out.new }
+    {
+        store_row(out, at, self.number, self.line.entry(frame))
+    }
+
     // The piece's characters in order from a place on, with a row for each newline after what waits in the output. It stops
     // before a newline for whose row the output may be too short.
     pub fn feed(&mut self, place: Place, frame: &mut [u8], piece: &[u8], out: &mut [u8]) -> Place
@@ -41,7 +51,7 @@ impl Progress {
             if taken == piece.len() || text::room_from(out, waiting) < ROW {
                 break;
             }
-            waiting = store_row(out, waiting, self.number, self.line.entry(frame));
+            waiting = self.store_present_row(frame, out, waiting);
             self.number = self.number.wrapping_add(1);
             self.line = Line::fresh();
             taken += 1;
@@ -60,7 +70,7 @@ impl Progress {
         if out.len() < ROW {
             return Err(Refusal::ShortOutput);
         }
-        Ok(store_row(out, 0, self.number, self.line.entry(frame)))
+        Ok(self.store_present_row(frame, out, 0))
     }
 }
 
