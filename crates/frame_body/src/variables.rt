@@ -1,5 +1,5 @@
 // The descriptors of a Variable Request and the containers of a Variable Response.
-ghost use Rattle.std.specs.Prelude.{◌≡◌, ◌+◌, ◌<◌, ◌≤◌, Some, length};
+ghost use Rattle.std.specs.Prelude.{◌≡◌, ◌+◌, ◌<◌, ◌≤◌, ◌||◌, Some, length, get_or, leb, eqb};
 ghost use Rattle.octets.specs.Octets.{num};
 ghost use Rattle.frame_tlvs.specs.Walk.{OnlyBroken};
 ghost use Rattle.frame_body.specs.Variables.{Has, as_descriptor_step, descriptor_step, width_of, value_octets, as_container_step, container_from, container_step, container_value};
@@ -7,6 +7,13 @@ ghost use Rattle.frame_body.specs.Variables.{Has, as_descriptor_step, descriptor
 use crate::{Container, Content};
 use frame_tlvs::Placed;
 use octets::Refusal;
+
+// Whether a list of descriptors or containers ends at an octet: with the body, or with branch 0.
+fn ends_at(body: &[u8], at: usize) -> bool
+    ensures { result ≡ (leb (length body.now) at || eqb (get_or body.now at 0) 0) }
+{
+    body.len() <= at || body[at] == 0
+}
 
 // The descriptor that stands whole at an octet.
 #[inline(always)]
@@ -32,7 +39,7 @@ pub fn descriptor_step(body: &[u8], at: usize) -> Option<Result<Placed<u32>, Ref
     ensures found { as_descriptor_step result ≡ descriptor_step body.now at }
     ensures refusal { OnlyBroken result }
 {
-    if body.len() <= at || body[at] == 0 {
+    if ends_at(body, at) {
         return None;
     }
     if body.len() - at < 3 {
@@ -100,7 +107,7 @@ pub fn container_step(body: &[u8], at: usize) -> Option<Result<Placed<Container>
     ensures found { as_container_step result ≡ container_step body.now at }
     ensures refusal { OnlyBroken result }
 {
-    if body.len() <= at || body[at] == 0 {
+    if ends_at(body, at) {
         return None;
     }
     if body.len() - at < 4 {
